@@ -1,0 +1,5 @@
+pub mod Limits
+pub mod Fractions
+pub mod Stages
+pub mod Prices
+pub mod Laws

@@ -1,0 +1,23 @@
+// The price of a quarter of an hour, derived from the published system figures.
+mod derivation;
+mod figures;
+mod fraction;
+mod stages;
+
+pub use derivation::Base;
+pub use derivation::Candidate;
+pub use derivation::Candidates;
+pub use derivation::Derivation;
+pub use derivation::Origin;
+pub use derivation::Side;
+pub use derivation::Stage;
+pub use figures::Activation;
+pub use figures::ActivationDebug;
+pub use figures::ActivationPartialEq;
+pub use figures::Activations;
+pub use figures::ActivationsDebug;
+pub use figures::ActivationsPartialEq;
+pub use figures::SystemFigures;
+pub use figures::SystemFiguresDebug;
+pub use figures::SystemFiguresPartialEq;
+pub use fraction::Fraction;
