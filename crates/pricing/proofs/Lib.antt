@@ -1,1 +1,4 @@
 pub mod Products
+pub mod Bounds
+pub mod Choices
+pub mod Lawfulness

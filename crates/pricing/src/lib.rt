@@ -2,6 +2,7 @@
 mod derivation;
 mod figures;
 mod fraction;
+mod price;
 mod stages;
 
 pub use derivation::Base;
@@ -21,3 +22,5 @@ pub use figures::SystemFigures;
 pub use figures::SystemFiguresDebug;
 pub use figures::SystemFiguresPartialEq;
 pub use fraction::Fraction;
+pub use price::derive;
+pub use price::price_of;

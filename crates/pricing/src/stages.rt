@@ -83,3 +83,125 @@ impl Side {
         if self.goes_first(one.value, other.value) { one } else { other }
     }
 }
+
+impl Activation {
+    fn cost(&self) -> i64
+        ensures { λ r. ⌜ r ≡ cost-of (now (self .entry)) ⌝ }
+    {
+        i64::from(self.price) * i64::from(self.kwh)
+    }
+}
+
+impl Activations {
+    fn kwh(&self) -> u64
+        ensures { λ r. ⌜ r ≡ activated-kwh (now (self .entry)) ⌝ }
+    {
+        u64::from(self.automatic.kwh) + (u64::from(self.manual.kwh) + u64::from(self.replacement.kwh))
+    }
+
+    fn cost(&self) -> i64
+        requires { ⌜ activations-in-range (now self) ≡ true ⌝ }
+        ensures { λ r. ⌜ r ≡ activated-cost (now (self .entry)) ⌝ }
+    {
+        self.automatic.cost() + (self.manual.cost() + self.replacement.cost())
+    }
+}
+
+// First: the mean price of what was activated, weighted by energy, or else the bid.
+pub(crate) fn base(activations: &Activations, bid: Option<i32>) -> Result<Base, Reason>
+    requires { ⌜ activations-in-range (now activations) ≡ true ⌝ }
+    ensures { λ r. ⌜ r ≡ base-of (now (activations .entry)) bid ⌝ }
+{
+    let kwh = activations.kwh();
+    if kwh > 0 {
+        let value = Fraction {
+            numerator: activations.cost(),
+            denominator: kwh,
+        };
+        return Ok(Base {
+            origin: Origin::Mean,
+            value,
+        });
+    }
+    let Some(price) = bid else {
+        return Err(Reason::NoBase);
+    };
+    let value = Fraction {
+        numerator: i64::from(price),
+        denominator: 1,
+    };
+    Ok(Base {
+        origin: Origin::Bid,
+        value,
+    })
+}
+
+// Second: the index, and on the side's way a margin of a quarter of its size, but at least 1,000.
+fn beside_index(side: Side, index: i32) -> Fraction
+    ensures { λ r. ⌜ r ≡ beside-index side index ⌝ }
+{
+    let margin_quarters = u64::from(index.unsigned_abs().max(4_000));
+    Fraction {
+        numerator: 4 * i64::from(index) + side.toward(margin_quarters),
+        denominator: 4,
+    }
+}
+
+fn scaled(side: Side, imbalance_kwh: u32, base: Fraction) -> Fraction
+    requires numerator { ⌜ «imbalance_kwh» * natAbs (base .numerator) < 2 ^ 63 ⌝ }
+    requires denominator { ⌜ 50000 * base .denominator < 2 ^ 64 ⌝ }
+    ensures { λ r. ⌜ r ≡ scaled-of side «imbalance_kwh» base ⌝ }
+{
+    Fraction {
+        numerator: side.toward(u64::from(imbalance_kwh) * base.numerator.unsigned_abs()),
+        denominator: u64::from(LARGE_IMBALANCE_KWH) * base.denominator,
+    }
+}
+
+// Third: only if the imbalance is large, the base's size in proportion to it.
+fn scaled_if_large(side: Side, imbalance_kwh: u32, base: Fraction) -> Option<Fraction>
+    requires few { ⌜ «imbalance_kwh» ≤ 500000 ⌝ }
+    requires bounded { ⌜ Bounded 3000000 3000000 base ⌝ }
+    ensures { λ r. ⌜ r ≡ scaled-if-large side «imbalance_kwh» base ⌝ }
+{
+    if imbalance_kwh > LARGE_IMBALANCE_KWH {
+        Some(scaled(side, imbalance_kwh, base))
+    } else {
+        None
+    }
+}
+
+pub(crate) fn candidates(side: Side, imbalance_kwh: u32, index: i32, base: Base) -> Candidates
+    requires few { ⌜ «imbalance_kwh» ≤ 500000 ⌝ }
+    requires bounded { ⌜ Bounded 3000000 3000000 (base .value) ⌝ }
+    ensures { λ r. ⌜ r ≡ candidates-of side «imbalance_kwh» index base ⌝ }
+{
+    Candidates {
+        base,
+        index: beside_index(side, index),
+        scaled: scaled_if_large(side, imbalance_kwh, base.value),
+    }
+}
+
+// Fourth: the least of the candidates at a surplus, the greatest at a shortage.
+pub(crate) fn decisive(side: Side, candidates: Candidates) -> Candidate
+    ensures { λ r. ⌜ r ≡ decisive-of side candidates ⌝ }
+{
+    let base = Candidate {
+        stage: Stage::First,
+        value: candidates.base.value,
+    };
+    let index = Candidate {
+        stage: Stage::Second,
+        value: candidates.index,
+    };
+    let of_two = side.preferred(base, index);
+    let Some(value) = candidates.scaled else {
+        return of_two;
+    };
+    let scaled = Candidate {
+        stage: Stage::Third,
+        value,
+    };
+    side.preferred(of_two, scaled)
+}
