@@ -63,8 +63,5 @@ pub fn price_of(figures: &SystemFigures) -> Result<i32, Reason>
     ensures value { λ r. ⌜ r ≡ price-of (now (figures .entry)) ⌝ }
     ensures lawful { λ r. ⌜ made r (Lawful (now (figures .entry))) ⌝ }
 {
-    match derive(figures) {
-        Ok(derivation) => Ok(derivation.price()),
-        Err(reason) => Err(reason),
-    }
+    Ok(derive(figures)?.price())
 }

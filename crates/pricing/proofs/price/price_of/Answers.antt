@@ -11,13 +11,13 @@ use Rattle.pricing.specs.Prices.{price-in, price-if-any}
 use Rattle.pricing.proofs.Lawfulness.{every-price-lawful}
 use Rattle.pricing.proofs.price.price_of.Needs as need
 
-pub returns-in-Ok : need.returns-in-Ok
-returns-in-Ok c =
+pub returns : need.returns
+returns c =
     let f = c .args .figures .now in
     let price = c .price .result in
     let fits : SFits w32 price = search needs in
     let is = toZ-ofZ w32 price fits ∙ c .price .ensures in
     record {
-      value = ap Ok is ∙ ap price-if-any (c .in-Ok .ensures tt);
-      lawful = subst (Lawful f) (sym is) (subst (λ r. made r (λ d. Lawful f (price-in d))) (sym (c .in-Ok .ensures tt)) (every-price-lawful f));
+      value = ap Ok is ∙ ap price-if-any (c .in-Continue-derive .ensures tt);
+      lawful = subst (Lawful f) (sym is) (subst (λ r. made r (λ d. Lawful f (price-in d))) (sym (c .in-Continue-derive .ensures tt)) (every-price-lawful f));
     }
