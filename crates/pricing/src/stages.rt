@@ -22,6 +22,9 @@ use refusal::Reason;
 // The system imbalance beyond which the base is scaled.
 const LARGE_IMBALANCE_KWH: u32 = 50_000;
 
+// The least margin on the index, in stotinki per MWh.
+const LEAST_MARGIN: u32 = 1_000;
+
 impl SystemFigures {
     // The side that the system is on; none where it is in balance.
     pub(crate) fn side(&self) -> Option<Side>
@@ -136,13 +139,19 @@ pub(crate) fn base(activations: &Activations, bid: Option<i32>) -> Result<Base, 
     })
 }
 
-// Second: the index, and on the side's way a margin of a quarter of its size, but at least 1,000.
+// A quarter of the index's size, but at least 1,000; in quarters.
+fn margin_quarters(index: i32) -> u64
+    ensures { λ r. ⌜ r ≡ margin-quarters index ⌝ }
+{
+    u64::from(index.unsigned_abs().max(4 * LEAST_MARGIN))
+}
+
+// Second: the index and its margin, on the side's way.
 fn beside_index(side: Side, index: i32) -> Fraction
     ensures { λ r. ⌜ r ≡ beside-index side index ⌝ }
 {
-    let margin_quarters = u64::from(index.unsigned_abs().max(4_000));
     Fraction {
-        numerator: 4 * i64::from(index) + side.toward(margin_quarters),
+        numerator: 4 * i64::from(index) + side.toward(margin_quarters(index)),
         denominator: 4,
     }
 }

@@ -1,11 +1,12 @@
 // The reasons for which a call is refused, each with its fixed number.
 ghost use mathlib.Core.Path.{_≡_};
+ghost use lib.Dec.{eqb};
 ghost use Rattle.std.specs.declared.option.Option.the-variants.{Some};
 ghost use Rattle.refusal.specs.Numbers.{number-of};
 ghost use Rattle.refusal.specs.Text.{reason-words};
 use std::fmt;
 
-#[derive(Clone, Copy, PartialEq, Eq, Debug)]
+#[derive(Clone, Copy, Debug)]
 pub enum Reason {
     WrongLength = 1,
     LedgerOutOfRange = 2,
@@ -65,6 +66,17 @@ impl Reason {
         }
     }
 }
+
+// Reasons are the same if their numbers are.
+pub impl PartialEq<Reason> for Reason as ReasonPartialEq {
+    ghost equals = { λ one other r. r ≡ eqb (number-of one) (number-of other) };
+
+    fn eq(&self, other: &Reason) -> bool {
+        self.number() == other.number()
+    }
+}
+
+pub impl Eq for Reason as ReasonEq {}
 
 pub impl fmt::Display for Reason as ReasonDisplay {
     ghost shown = { λ r. Some (reason-words r) };

@@ -10,6 +10,7 @@ use crate::layer::LayerPartialEq;
 use crate::reason::Reason;
 use crate::reason::ReasonDebug;
 use crate::reason::ReasonDisplay;
+use crate::reason::ReasonEq;
 use crate::reason::ReasonPartialEq;
 use std::fmt;
 

@@ -1,0 +1,3 @@
+-- Lemmas that the proofs of functions use.
+pub mod Digits
+pub mod Lines

@@ -1,0 +1,6 @@
+-- The rules of a description, in the order to read them: words, numbers, entries, figures; then the texts of problems.
+pub mod Words
+pub mod Numbers
+pub mod Entries
+pub mod Figures
+pub mod Texts

@@ -1,0 +1,153 @@
+// What the lines of a description have entered so far.
+ghost use mathlib.Core.Path.{_≡_};
+ghost use Rattle.description.specs.Figures.{given-once, one-more, direction-after, draft-after, draft-after-line, activations-of, figures-from};
+use crate::entry::Entry;
+use crate::entry::DirectionEntry;
+use crate::entry::read_line;
+use crate::problem::Fault;
+use crate::problem::Problem;
+use pricing::Activation;
+use pricing::Activations;
+use pricing::SystemFigures;
+
+#[derive(Clone, Copy)]
+pub struct Draft {
+    imbalance_kwh: Option<i32>,
+    index: Option<i32>,
+    downward: Direction,
+    upward: Direction,
+}
+
+// One direction.
+#[derive(Clone, Copy)]
+struct Direction {
+    bid: Option<i32>,
+    reserves: Reserves,
+}
+
+// The activations of a direction, in the order in which they were given.
+#[derive(Clone, Copy)]
+enum Reserves {
+    Idle,
+    One(Activation),
+    Two(Activation, Activation),
+    Three(Activation, Activation, Activation),
+}
+
+const NOT_ACTIVATED: Activation = Activation { kwh: 0, price: 0 };
+
+fn once(before: Option<i32>, number: i32) -> Result<Option<i32>, Fault>
+    ensures { λ r. ⌜ r ≡ given-once before number ⌝ }
+{
+    match before {
+        None => Ok(Some(number)),
+        Some(_) => Err(Fault::Repeated),
+    }
+}
+
+impl Reserves {
+    fn with(self, next: Activation) -> Result<Reserves, Fault>
+        ensures { λ r. ⌜ r ≡ one-more self next ⌝ }
+    {
+        match self {
+            Reserves::Idle => Ok(Reserves::One(next)),
+            Reserves::One(first) => Ok(Reserves::Two(first, next)),
+            Reserves::Two(first, second) => Ok(Reserves::Three(first, second, next)),
+            Reserves::Three(..) => Err(Fault::Repeated),
+        }
+    }
+
+    fn activations(self) -> Activations
+        ensures { λ r. ⌜ r ≡ activations-of self ⌝ }
+    {
+        let (automatic, manual, replacement) = match self {
+            Reserves::Idle => (NOT_ACTIVATED, NOT_ACTIVATED, NOT_ACTIVATED),
+            Reserves::One(first) => (first, NOT_ACTIVATED, NOT_ACTIVATED),
+            Reserves::Two(first, second) => (first, second, NOT_ACTIVATED),
+            Reserves::Three(first, second, third) => (first, second, third),
+        };
+        Activations {
+            automatic,
+            manual,
+            replacement,
+        }
+    }
+}
+
+impl Direction {
+    const EMPTY: Direction = Direction {
+        bid: None,
+        reserves: Reserves::Idle,
+    };
+
+    fn with(self, entry: DirectionEntry) -> Result<Direction, Fault>
+        ensures { λ r. ⌜ r ≡ direction-after self entry ⌝ }
+    {
+        match entry {
+            DirectionEntry::Bid(price) => Ok(Direction {
+                bid: once(self.bid, price)?,
+                ..self
+            }),
+            DirectionEntry::Activated(activation) => Ok(Direction {
+                reserves: self.reserves.with(activation)?,
+                ..self
+            }),
+        }
+    }
+}
+
+impl Draft {
+    pub const EMPTY: Draft = Draft {
+        imbalance_kwh: None,
+        index: None,
+        downward: Direction::EMPTY,
+        upward: Direction::EMPTY,
+    };
+
+    fn with(self, entry: Entry) -> Result<Draft, Fault>
+        ensures { λ r. ⌜ r ≡ draft-after self entry ⌝ }
+    {
+        match entry {
+            Entry::ImbalanceKwh(kwh) => Ok(Draft {
+                imbalance_kwh: once(self.imbalance_kwh, kwh)?,
+                ..self
+            }),
+            Entry::IndexPrice(price) => Ok(Draft {
+                index: once(self.index, price)?,
+                ..self
+            }),
+            Entry::Downward(entry) => Ok(Draft {
+                downward: self.downward.with(entry)?,
+                ..self
+            }),
+            Entry::Upward(entry) => Ok(Draft {
+                upward: self.upward.with(entry)?,
+                ..self
+            }),
+        }
+    }
+
+    pub fn with_line(self, line: &[u8]) -> Result<Draft, Fault>
+        ensures { λ r. ⌜ r ≡ draft-after-line self (now (line .entry)) ⌝ }
+    {
+        match read_line(line)? {
+            Some(entry) => self.with(entry),
+            None => Ok(self),
+        }
+    }
+
+    pub fn figures(self) -> Result<SystemFigures, Problem>
+        ensures { λ r. ⌜ r ≡ figures-from self ⌝ }
+    {
+        let imbalance_kwh = self.imbalance_kwh.ok_or(Problem::NoImbalance)?;
+        let index = self.index.ok_or(Problem::NoIndex)?;
+        Ok(SystemFigures {
+            imbalance_kwh,
+            downward: self.downward.reserves.activations(),
+            upward: self.upward.reserves.activations(),
+            downward_bid: self.downward.bid,
+            upward_bid: self.upward.bid,
+            index,
+        })
+    }
+}

@@ -1,0 +1,42 @@
+// The words that a line may begin with.
+ghost use mathlib.Core.Path.{_≡_};
+ghost use Rattle.std.specs.shelf.Text.{sameBytes};
+ghost use Rattle.description.specs.Entries.{keyword-of};
+
+#[derive(Clone, Copy)]
+pub enum Keyword {
+    Imbalance,
+    Index,
+    DownBid,
+    UpBid,
+    Down,
+    Up,
+}
+
+fn is(word: &[u8], name: &str) -> bool
+    ensures { λ r. ⌜ r ≡ sameBytes (now (word .entry)) (now (name .entry)) ⌝ }
+{
+    word == name.as_bytes()
+}
+
+impl Keyword {
+    pub fn named(word: &[u8]) -> Option<Keyword>
+        ensures { λ r. ⌜ r ≡ keyword-of (now (word .entry)) ⌝ }
+    {
+        if is(word, "imbalance") {
+            Some(Keyword::Imbalance)
+        } else if is(word, "index") {
+            Some(Keyword::Index)
+        } else if is(word, "down-bid") {
+            Some(Keyword::DownBid)
+        } else if is(word, "up-bid") {
+            Some(Keyword::UpBid)
+        } else if is(word, "down") {
+            Some(Keyword::Down)
+        } else if is(word, "up") {
+            Some(Keyword::Up)
+        } else {
+            None
+        }
+    }
+}
