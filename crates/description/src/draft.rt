@@ -1,8 +1,8 @@
 // What the lines of a description have entered so far.
 ghost use mathlib.Core.Path.{_≡_};
 ghost use Rattle.description.specs.Figures.{given-once, one-more, direction-after, draft-after, draft-after-line, activations-of, figures-from};
-use crate::entry::Entry;
 use crate::entry::DirectionEntry;
+use crate::entry::Entry;
 use crate::entry::read_line;
 use crate::problem::Fault;
 use crate::problem::Problem;

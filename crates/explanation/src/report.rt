@@ -49,8 +49,14 @@ impl fmt::Display for SideLine as SideLineDisplay {
     fn fmt<W: fmt::Write>(&self, f: &mut fmt::Formatter<W>) -> fmt::Result {
         let kwh = self.1;
         match self.0 {
-            Side::Surplus => write!(f, "The system has a surplus of {kwh} kWh: the price is the least candidate.\n"),
-            Side::Shortage => write!(f, "The system has a shortage of {kwh} kWh: the price is the greatest candidate.\n"),
+            Side::Surplus => write!(
+                f,
+                "The system has a surplus of {kwh} kWh: the price is the least candidate.\n"
+            ),
+            Side::Shortage => write!(
+                f,
+                "The system has a shortage of {kwh} kWh: the price is the greatest candidate.\n"
+            ),
         }
     }
 }
@@ -156,7 +162,10 @@ pub impl fmt::Display for Report as ReportDisplay {
         match self.0 {
             Derivation::Balanced { price } => {
                 let price = PriceLine(price);
-                write!(f, "The system is in balance: the price is the index.\n{price}")
+                write!(
+                    f,
+                    "The system is in balance: the price is the index.\n{price}"
+                )
             }
             Derivation::Decided {
                 side,

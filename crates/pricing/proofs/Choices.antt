@@ -54,8 +54,8 @@ all-bounded side kwh index base few near b = record {
   base = base-as-candidate (base .value) b;
   index = index-bounded side index near;
   third =
-    cond-both (ltb 50000 kwh) (Some (scaled side kwh (base .value))) None (λ o. found o Candidate-bounded)
-    (λ e. scaled-bounded side kwh (base .value) few b) (λ e. tt);
+      cond-both (ltb 50000 kwh) (Some (scaled side kwh (base .value))) None (λ o. found o Candidate-bounded)
+      (λ e. scaled-bounded side kwh (base .value) few b) (λ e. tt);
 }
 
 -- ---- rounded, the preferred one is no less far than either

@@ -98,7 +98,7 @@ module _ (f : SystemFigures) (r : In-range f) where
       rounding-within (d .numerator) (d .denominator) price-limit (h .proper) (h .small)
 
   price-ahead : (side : Side) (base : Base) → Base-bounded base → (other : Base) → other ≡ base →
-    Ahead side (price side base) (to-nearest (other .value)) × Ahead side (price side base) (to-nearest (beside-index side (f .index)))
+      Ahead side (price side base) (to-nearest (other .value)) × Ahead side (price side base) (to-nearest (beside-index side (f .index)))
   price-ahead side base b other e = (
     subst (λ o. Ahead side (price side base) (to-nearest (o .value))) (sym e) (ahead-of-base side (priced side base) (all side base b)),
     ahead-of-index side (priced side base) (all side base b),

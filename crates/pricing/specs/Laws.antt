@@ -16,6 +16,6 @@ use Rattle.pricing.specs.Stages.{base-of, beside-index}
 pub record Lawful (f : SystemFigures) (price : ℤ) : Type 0 where
   pub small : natAbs price ≤ price-limit
   pub surplus : pos 0 <ℤ f .«imbalance_kwh» → (base : Base) → base-of (f .downward) (f .«downward_bid») ≡ Ok base →
-    (price ≤ℤ to-nearest (base .value)) × (price ≤ℤ to-nearest (beside-index Surplus (f .index)))
+      (price ≤ℤ to-nearest (base .value)) × (price ≤ℤ to-nearest (beside-index Surplus (f .index)))
   pub shortage : f .«imbalance_kwh» <ℤ pos 0 → (base : Base) → base-of (f .upward) (f .«upward_bid») ≡ Ok base →
-    (to-nearest (base .value) ≤ℤ price) × (to-nearest (beside-index Shortage (f .index)) ≤ℤ price)
+      (to-nearest (base .value) ≤ℤ price) × (to-nearest (beside-index Shortage (f .index)) ≤ℤ price)

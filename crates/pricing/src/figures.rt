@@ -74,7 +74,9 @@ impl SystemFigures {
     fn offers_in_range(&self) -> bool
         ensures { λ r. ⌜ r ≡ offers-in-range (now (self .entry)) ⌝ }
     {
-        bid_in_range(self.downward_bid) && bid_in_range(self.upward_bid) && offer_in_range(self.index)
+        bid_in_range(self.downward_bid)
+            && bid_in_range(self.upward_bid)
+            && offer_in_range(self.index)
     }
 
     fn both_in_range(&self) -> bool
@@ -86,6 +88,8 @@ impl SystemFigures {
     pub(crate) fn in_range(&self) -> bool
         ensures { λ r. ⌜ r ≡ figures-in-range (now (self .entry)) ⌝ }
     {
-        self.imbalance_kwh.unsigned_abs() <= IMBALANCE_LIMIT_KWH && self.both_in_range() && self.offers_in_range()
+        self.imbalance_kwh.unsigned_abs() <= IMBALANCE_LIMIT_KWH
+            && self.both_in_range()
+            && self.offers_in_range()
     }
 }

@@ -55,7 +55,12 @@ pub fn derive(figures: &SystemFigures) -> Result<Derivation, Reason>
     };
     let activations = figures.activations_on(side);
     let base = base(&activations, figures.bid_on(side))?;
-    Ok(decided(side, figures.imbalance_kwh.unsigned_abs(), figures.index, base))
+    Ok(decided(
+        side,
+        figures.imbalance_kwh.unsigned_abs(),
+        figures.index,
+        base,
+    ))
 }
 
 // The price of a quarter of an hour.

@@ -83,7 +83,11 @@ impl Side {
     fn preferred(self, one: Candidate, other: Candidate) -> Candidate
         ensures { λ r. ⌜ r ≡ preferred-of self one other ⌝ }
     {
-        if self.goes_first(one.value, other.value) { one } else { other }
+        if self.goes_first(one.value, other.value) {
+            one
+        } else {
+            other
+        }
     }
 }
 
@@ -99,7 +103,8 @@ impl Activations {
     fn kwh(&self) -> u64
         ensures { λ r. ⌜ r ≡ activated-kwh (now (self .entry)) ⌝ }
     {
-        u64::from(self.automatic.kwh) + (u64::from(self.manual.kwh) + u64::from(self.replacement.kwh))
+        u64::from(self.automatic.kwh)
+            + (u64::from(self.manual.kwh) + u64::from(self.replacement.kwh))
     }
 
     fn cost(&self) -> i64

@@ -55,7 +55,12 @@ impl Refusal {
     pub fn naming_nobody(reason: Reason, layer: Layer) -> Refusal
         ensures { λ r. ⌜ r ≡ naming-nobody reason layer ⌝ }
     {
-        Refusal::concerning(reason, layer, usize::from(NO_MEMBER), usize::from(NO_PERIOD))
+        Refusal::concerning(
+            reason,
+            layer,
+            usize::from(NO_MEMBER),
+            usize::from(NO_PERIOD),
+        )
     }
 
     // The same refusal, of a record that begins at this byte of a file.
@@ -78,7 +83,11 @@ impl fmt::Display for OfMember as OfMemberDisplay {
 
     fn fmt<W: fmt::Write>(&self, f: &mut fmt::Formatter<W>) -> fmt::Result {
         let member = self.0;
-        if member < NO_MEMBER { write!(f, ", member {member}") } else { write!(f, "") }
+        if member < NO_MEMBER {
+            write!(f, ", member {member}")
+        } else {
+            write!(f, "")
+        }
     }
 }
 
@@ -91,7 +100,11 @@ impl fmt::Display for OfPeriod as OfPeriodDisplay {
 
     fn fmt<W: fmt::Write>(&self, f: &mut fmt::Formatter<W>) -> fmt::Result {
         let period = self.0;
-        if period < NO_PERIOD { write!(f, ", period {period}") } else { write!(f, "") }
+        if period < NO_PERIOD {
+            write!(f, ", period {period}")
+        } else {
+            write!(f, "")
+        }
     }
 }
 
@@ -120,6 +133,9 @@ pub impl fmt::Display for Refusal as RefusalDisplay {
         let member = OfMember(self.member);
         let period = OfPeriod(self.period);
         let place = AtPlace(self.place);
-        write!(f, "refused {number}: {reason} ({layer}{member}{period}{place})")
+        write!(
+            f,
+            "refused {number}: {reason} ({layer}{member}{period}{place})"
+        )
     }
 }

@@ -15,7 +15,7 @@ whole-price-requires c κs =
     let index = c .args .index in
     let base = c .args .base in
     let all : c .candidates-candidates .result ≡ candidates-of side kwh index base =
-            c .candidates-candidates .ensures ∙ ap (λ z. candidates-of side kwh z base) (toZ-ofZ w32 index (c .fits .index)) in
+    c .candidates-candidates .ensures ∙ ap (λ z. candidates-of side kwh z base) (toZ-ofZ w32 index (c .fits .index)) in
     let bounded : All-bounded (c .candidates-candidates .result) =
-            subst All-bounded (sym all) (all-bounded side kwh index base (c .pre .few) (c .pre .near) (c .pre .bounded)) in
+    subst All-bounded (sym all) (all-bounded side kwh index base (c .pre .few) (c .pre .near) (c .pre .bounded)) in
     subst (λ d. Candidate-bounded (d .value)) (sym (c .decisive-decisive .ensures)) (decisive-bounded side (c .candidates-candidates .result) bounded)

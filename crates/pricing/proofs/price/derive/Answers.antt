@@ -31,7 +31,7 @@ pub decided-requires : need.decided-requires
 decided-requires c κs =
     let r = range (need.at·decided-requires c .After-bid-on) in
     let bounded : Base-bounded (c .in-Continue-base .base) =
-            subst (λ (o : Result Base Reason). made o Base-bounded) (sym (based (need.at·decided-requires c .In-Continue-base))) (base-of-range (c .args .figures .now) r (c .in-Some .side)) in
+    subst (λ (o : Result Base Reason). made o Base-bounded) (sym (based (need.at·decided-requires c .In-Continue-base))) (base-of-range (c .args .figures .now) r (c .in-Some .side)) in
     record { few = omega (arith, ints, r .imbalance); near = omega (arith, ints, r .index); bounded = bounded }
 
 pub returns : need.returns
@@ -42,5 +42,5 @@ returns c =
     let fits : SFits w32 (f .index) = search needs in
     let size : c .unsigned-abs .result ≡ natAbs (f .«imbalance_kwh») = omega (arith, ints) in
     let is : c .decided .result ≡ decided side (natAbs (f .«imbalance_kwh»)) (candidates-of side (natAbs (f .«imbalance_kwh»)) (f .index) base) =
-            c .decided .ensures ∙ (λ i. decided side (size i) (candidates-of side (size i) (toZ-ofZ w32 (f .index) fits i) base)) in
+    c .decided .ensures ∙ (λ i. decided side (size i) (candidates-of side (size i) (toZ-ofZ w32 (f .index) fits i) base)) in
     ap Ok is ∙ derived f side base (sym (c .if-not-in-range .ensures tt)) (c .in-Some .ensures tt) (based (need.at·returns c .In-Continue-base))

@@ -14,8 +14,8 @@ pub returns : need.returns
 returns c =
     let index = c .args .index in
     let margin : c .margin-quarters .result ≡ margin-quarters index =
-            c .margin-quarters .ensures ∙ ap margin-quarters (toZ-ofZ w32 index (c .fits .index)) in
+    c .margin-quarters .ensures ∙ ap margin-quarters (toZ-ofZ w32 index (c .fits .index)) in
     let way : c .toward .result ≡ toward (c .args .side) (margin-quarters index) =
-            c .toward .ensures ∙ ap (toward (c .args .side)) margin in
+    c .toward .ensures ∙ ap (toward (c .args .side)) margin in
     let four : toZ w64 (ofZ w64 (pos 4 *ℤ toZ w64 (ofZ w64 (c .from .result)))) ≡ pos 4 *ℤ index = omega (arith, ints) in
     ap (λ z. z over 4) (omega (arith, ints, four, way, size-toward (c .args .side) (margin-quarters index)))
