@@ -11,7 +11,7 @@ use Rattle.std.proofs.shelf.Tests.{cond-true, cond-false, cases-bool}
 use Rattle.std.specs.shelf.Lists.{leading}
 use Rattle.std.specs.declared.result.Result.{Result}
 use Rattle.std.specs.declared.result.Result.the-variants.{Ok, Err}
-use Rattle.pricing.specs.declared.figures.SystemFigures.{SystemFigures}
+use Rattle.description.specs.declared.draft.Quarter.{Quarter}
 use Rattle.description.specs.declared.draft.Draft.{Draft}
 use Rattle.description.specs.declared.problem.Fault.{Fault}
 use Rattle.description.specs.declared.problem.Problem.{Problem}
@@ -19,7 +19,7 @@ use Rattle.description.specs.declared.problem.Problem.the-variants.{Line}
 use Rattle.description.specs.declared.words.Kind.the-variants.{InLine}
 use Rattle.description.specs.Words.{is-of, ends-line, prepended, lines-of}
 use Rattle.description.specs.Entries.{and-then}
-use Rattle.description.specs.Figures.{draft-after-line, at-line, figures-after}
+use Rattle.description.specs.Figures.{draft-after-line, at-line, quarter-after}
 
 -- how long the first line is
 abbrev pub line-length : List ℕ → ℕ
@@ -52,17 +52,17 @@ first-line (byte ∷ next ∷ more) some =
 
 -- what a text describes, from the line of this number on, once its first line is taken off it
 module _ (number : ℕ) (draft : Draft) (text line rest : List ℕ) (some : 0 < length text) (is-line : line ≡ take (line-length text) text) (is-rest : rest ≡ drop (line-length text + 1) text) where
-  by-line : figures-after number draft (lines-of text) ≡ and-then (at-line number (draft-after-line draft line)) (λ next. figures-after (number + 1) next (lines-of rest))
+  by-line : quarter-after number draft (lines-of text) ≡ and-then (at-line number (draft-after-line draft line)) (λ next. quarter-after (number + 1) next (lines-of rest))
   by-line =
-      ap (figures-after number draft) (first-line text some)
-      ∙ ap (λ (xs : List ℕ). figures-after number draft (xs ∷ lines-of (drop (line-length text + 1) text))) (sym is-line)
-      ∙ ap (λ (xs : List ℕ). figures-after number draft (line ∷ lines-of xs)) (sym is-rest)
+      ap (quarter-after number draft) (first-line text some)
+      ∙ ap (λ (xs : List ℕ). quarter-after number draft (xs ∷ lines-of (drop (line-length text + 1) text))) (sym is-line)
+      ∙ ap (λ (xs : List ℕ). quarter-after number draft (line ∷ lines-of xs)) (sym is-rest)
 
-  abbrev follow : Result Draft Fault → Result SystemFigures Problem
-  follow r = and-then (at-line number r) (λ next. figures-after (number + 1) next (lines-of rest))
+  abbrev follow : Result Draft Fault → Result Quarter Problem
+  follow r = and-then (at-line number r) (λ next. quarter-after (number + 1) next (lines-of rest))
 
-  pub at-fault : (fault : Fault) → Err fault ≡ draft-after-line draft line → figures-after number draft (lines-of text) ≡ Err (Line number fault)
+  pub at-fault : (fault : Fault) → Err fault ≡ draft-after-line draft line → quarter-after number draft (lines-of text) ≡ Err (Line number fault)
   at-fault fault e = by-line ∙ ap follow (sym e)
 
-  pub past-line : (next : Draft) → Ok next ≡ draft-after-line draft line → figures-after number draft (lines-of text) ≡ figures-after (number + 1) next (lines-of rest)
+  pub past-line : (next : Draft) → Ok next ≡ draft-after-line draft line → quarter-after number draft (lines-of text) ≡ quarter-after (number + 1) next (lines-of rest)
   past-line next e = by-line ∙ ap follow (sym e)

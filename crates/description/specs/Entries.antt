@@ -12,12 +12,16 @@ use Rattle.std.specs.declared.option.Option.{Option}
 use Rattle.std.specs.declared.option.Option.the-variants.{None, Some}
 use Rattle.std.specs.declared.result.Result.{Result}
 use Rattle.std.specs.declared.result.Result.the-variants.{Ok, Err}
+use Rattle.charging.specs.declared.imbalance.Position.{Position}
+use Rattle.charging.specs.declared.imbalance.Role.{Role}
+use Rattle.charging.specs.declared.imbalance.Role.the-variants as roles
 use Rattle.pricing.specs.declared.figures.Activation.{Activation}
 use Rattle.description.specs.declared.entry.Entry.{Entry}
-use Rattle.description.specs.declared.entry.Entry.the-variants.{ImbalanceKwh, IndexPrice, Downward, Upward}
+use Rattle.description.specs.declared.entry.Entry.the-variants.{ImbalanceKwh, IndexPrice, Downward, Upward, OfGroup}
+use Rattle.description.specs.declared.entry.GroupEntry.the-variants.{InternalPrice, Member}
 use Rattle.description.specs.declared.entry.DirectionEntry.the-variants.{Bid, Activated}
 use Rattle.description.specs.declared.keyword.Keyword.{Keyword}
-use Rattle.description.specs.declared.keyword.Keyword.the-variants.{Imbalance, Index, DownBid, UpBid, Down, Up}
+use Rattle.description.specs.declared.keyword.Keyword.the-variants.{Imbalance, Index, DownBid, UpBid, Down, Up, Internal, Producer, Consumer}
 use Rattle.description.specs.declared.problem.Fault.{Fault}
 use Rattle.description.specs.declared.problem.Fault.the-variants.{UnknownKeyword, NumberMissing, NotNumber, NotEnergy, TooMuch}
 use Rattle.description.specs.Words.{first-word, after-word}
@@ -40,7 +44,10 @@ keyword-of word =
     (cond (sameBytes word (codes "up-bid")) (Some UpBid)
     (cond (sameBytes word (codes "down")) (Some Down)
     (cond (sameBytes word (codes "up")) (Some Up)
-    None)))))
+    (cond (sameBytes word (codes "internal")) (Some Internal)
+    (cond (sameBytes word (codes "producer")) (Some Producer)
+    (cond (sameBytes word (codes "consumer")) (Some Consumer)
+    None))))))))
 
 -- the signed number and the energy that a word should be: an empty word is a missing one
 abbrev pub number-in : List ℕ → Result ℤ Fault
@@ -64,6 +71,13 @@ activation-in rest =
     and-then (number-in (first-word (after-word rest))) (λ price.
     at-end (after-word (after-word rest)) (record { kwh = kwh; price = price })))
 
+-- a member's schedule and his reading, and no more
+abbrev pub position-in : Role → List ℕ → Result Position Fault
+position-in role rest =
+    and-then (energy-in (first-word rest)) (λ schedule.
+    and-then (energy-in (first-word (after-word rest))) (λ reading.
+    at-end (after-word (after-word rest)) (record { role = role; «schedule_kwh» = schedule; «reading_kwh» = reading })))
+
 -- what a keyword enters, from the words that follow it
 abbrev pub entry-for : Keyword → List ℕ → Result Entry Fault
 entry-for Imbalance rest = and-then (lone-number rest) (λ kwh. Ok (ImbalanceKwh kwh))
@@ -72,6 +86,9 @@ entry-for DownBid rest = and-then (lone-number rest) (λ price. Ok (Downward (Bi
 entry-for UpBid rest = and-then (lone-number rest) (λ price. Ok (Upward (Bid price)))
 entry-for Down rest = and-then (activation-in rest) (λ activation. Ok (Downward (Activated activation)))
 entry-for Up rest = and-then (activation-in rest) (λ activation. Ok (Upward (Activated activation)))
+entry-for Internal rest = and-then (lone-number rest) (λ price. Ok (OfGroup (InternalPrice price)))
+entry-for Producer rest = and-then (position-in roles.Producer rest) (λ position. Ok (OfGroup (Member position)))
+entry-for Consumer rest = and-then (position-in roles.Consumer rest) (λ position. Ok (OfGroup (Member position)))
 
 -- a line is ignored if it has no word, or if its first begins with `#`, byte 35
 abbrev pub is-ignored : List ℕ → Bool

@@ -1,4 +1,4 @@
--- The figures that a text describes.
+-- The quarter of an hour that a text describes.
 use mathlib.Core.List.{List, [], _∷_}
 use Prim.Native.Nat.{ℕ, _+_}
 use lib.IntN.{ℤ, pos}
@@ -12,10 +12,11 @@ use Rattle.pricing.specs.declared.figures.Activations.{Activations}
 use Rattle.pricing.specs.declared.figures.SystemFigures.{SystemFigures}
 use Rattle.description.specs.declared.draft.Draft.{Draft}
 use Rattle.description.specs.declared.draft.Direction.{Direction}
+use Rattle.description.specs.declared.draft.Quarter.{Quarter}
 use Rattle.description.specs.declared.draft.Reserves.{Reserves}
 use Rattle.description.specs.declared.draft.Reserves.the-variants.{Idle, One, Two, Three}
 use Rattle.description.specs.declared.entry.Entry.{Entry}
-use Rattle.description.specs.declared.entry.Entry.the-variants.{ImbalanceKwh, IndexPrice, Downward, Upward}
+use Rattle.description.specs.declared.entry.Entry.the-variants.{ImbalanceKwh, IndexPrice, Downward, Upward, OfGroup}
 use Rattle.description.specs.declared.entry.DirectionEntry.{DirectionEntry}
 use Rattle.description.specs.declared.entry.DirectionEntry.the-variants.{Bid, Activated}
 use Rattle.description.specs.declared.problem.Fault.{Fault}
@@ -24,11 +25,7 @@ use Rattle.description.specs.declared.problem.Problem.{Problem}
 use Rattle.description.specs.declared.problem.Problem.the-variants.{Line, NoImbalance, NoIndex}
 use Rattle.description.specs.Words.{lines-of}
 use Rattle.description.specs.Entries.{and-then, entry-of}
-
--- a number that may be given once
-abbrev pub given-once : Option ℤ → ℤ → Result (Option ℤ) Fault
-given-once None number = Ok (Some number)
-given-once (Some before) number = Err Repeated
+use Rattle.description.specs.Group.{given-once, no-group, group-after, group-from}
 
 -- activations in one direction, which may be given three times
 abbrev pub one-more : Reserves → Activation → Result Reserves Fault
@@ -46,16 +43,19 @@ direction-after known (Activated next) = and-then (one-more (known .reserves) ne
 abbrev pub draft-after : Draft → Entry → Result Draft Fault
 draft-after draft (ImbalanceKwh number) =
     and-then (given-once (draft .«imbalance_kwh») number)
-    (λ kwh. Ok (record { «imbalance_kwh» = kwh; index = draft .index; downward = draft .downward; upward = draft .upward }))
+    (λ kwh. Ok (record { «imbalance_kwh» = kwh; index = draft .index; downward = draft .downward; upward = draft .upward; group = draft .group }))
 draft-after draft (IndexPrice number) =
     and-then (given-once (draft .index) number)
-    (λ price. Ok (record { «imbalance_kwh» = draft .«imbalance_kwh»; index = price; downward = draft .downward; upward = draft .upward }))
+    (λ price. Ok (record { «imbalance_kwh» = draft .«imbalance_kwh»; index = price; downward = draft .downward; upward = draft .upward; group = draft .group }))
 draft-after draft (Downward entry) =
     and-then (direction-after (draft .downward) entry)
-    (λ known. Ok (record { «imbalance_kwh» = draft .«imbalance_kwh»; index = draft .index; downward = known; upward = draft .upward }))
+    (λ known. Ok (record { «imbalance_kwh» = draft .«imbalance_kwh»; index = draft .index; downward = known; upward = draft .upward; group = draft .group }))
 draft-after draft (Upward entry) =
     and-then (direction-after (draft .upward) entry)
-    (λ known. Ok (record { «imbalance_kwh» = draft .«imbalance_kwh»; index = draft .index; downward = draft .downward; upward = known }))
+    (λ known. Ok (record { «imbalance_kwh» = draft .«imbalance_kwh»; index = draft .index; downward = draft .downward; upward = known; group = draft .group }))
+draft-after draft (OfGroup entry) =
+    and-then (group-after (draft .group) entry)
+    (λ known. Ok (record { «imbalance_kwh» = draft .«imbalance_kwh»; index = draft .index; downward = draft .downward; upward = draft .upward; group = known }))
 
 -- what is known after a line: an ignored one adds nothing
 abbrev pub draft-with : Draft → Option Entry → Result Draft Fault
@@ -70,7 +70,7 @@ abbrev pub nothing-given : Direction
 nothing-given = record { bid = None; reserves = Idle }
 
 abbrev pub nothing-known : Draft
-nothing-known = record { «imbalance_kwh» = None; index = None; downward = nothing-given; upward = nothing-given }
+nothing-known = record { «imbalance_kwh» = None; index = None; downward = nothing-given; upward = nothing-given; group = no-group }
 
 -- the activations of a direction: the first given is automatic, the second manual, the third of the replacement reserve.
 -- One that is not given is 0 kWh at price 0
@@ -100,16 +100,22 @@ figures-from draft =
       index = index;
     })))
 
+abbrev pub quarter-from : Draft → Result Quarter Problem
+quarter-from draft =
+    and-then (figures-from draft) (λ figures.
+    and-then (group-from (draft .group)) (λ group.
+    Ok (record { figures = figures; group = group })))
+
 -- a fault, with the number of its line
 abbrev pub at-line : ℕ → Result Draft Fault → Result Draft Problem
 at-line number (Ok draft) = Ok draft
 at-line number (Err fault) = Err (Line number fault)
 
 -- what lines describe, of which the first has this number, after what is known before them
-abbrev pub figures-after : ℕ → Draft → List (List ℕ) → Result SystemFigures Problem
-figures-after number draft [] = figures-from draft
-figures-after number draft (line ∷ more) = and-then (at-line number (draft-after-line draft line)) (λ next. figures-after (number + 1) next more)
+abbrev pub quarter-after : ℕ → Draft → List (List ℕ) → Result Quarter Problem
+quarter-after number draft [] = quarter-from draft
+quarter-after number draft (line ∷ more) = and-then (at-line number (draft-after-line draft line)) (λ next. quarter-after (number + 1) next more)
 
 -- what a text describes
-abbrev pub figures-described : List ℕ → Result SystemFigures Problem
-figures-described text = figures-after 1 nothing-known (lines-of text)
+abbrev pub quarter-described : List ℕ → Result Quarter Problem
+quarter-described text = quarter-after 1 nothing-known (lines-of text)

@@ -6,7 +6,7 @@ use Rattle.std.specs.Written.{decimal}
 use Rattle.description.specs.declared.problem.Fault.{Fault}
 use Rattle.description.specs.declared.problem.Fault.the-variants.{UnknownKeyword, NumberMissing, NotNumber, NotEnergy, TooMuch, Repeated}
 use Rattle.description.specs.declared.problem.Problem.{Problem}
-use Rattle.description.specs.declared.problem.Problem.the-variants.{Line, NoImbalance, NoIndex}
+use Rattle.description.specs.declared.problem.Problem.the-variants.{Line, NoImbalance, NoIndex, NoInternalPrice}
 
 abbrev pub fault-text : Fault → List ℕ
 fault-text UnknownKeyword = codes "unknown keyword"
@@ -20,3 +20,4 @@ abbrev pub problem-text : Problem → List ℕ
 problem-text (Line number fault) = codes "line " ++ (decimal number ++ (codes ": " ++ fault-text fault))
 problem-text NoImbalance = codes "no imbalance line"
 problem-text NoIndex = codes "no index line"
+problem-text NoInternalPrice = codes "no internal price line"

@@ -1,14 +1,24 @@
 // What the lines of a description have entered so far.
 ghost use mathlib.Core.Path.{_≡_};
-ghost use Rattle.description.specs.Figures.{given-once, one-more, direction-after, draft-after, draft-after-line, activations-of, figures-from};
+ghost use Rattle.description.specs.Figures.{one-more, direction-after, draft-after, draft-after-line, activations-of, figures-from, quarter-from};
 use crate::entry::DirectionEntry;
 use crate::entry::Entry;
 use crate::entry::read_line;
+use crate::group::Group;
+use crate::group::GroupDraft;
+use crate::once;
 use crate::problem::Fault;
 use crate::problem::Problem;
 use pricing::Activation;
 use pricing::Activations;
 use pricing::SystemFigures;
+
+// A quarter of an hour: the system's figures, and the group where one is listed.
+#[derive(Clone, Copy)]
+pub struct Quarter {
+    pub figures: SystemFigures,
+    pub group: Option<Group>,
+}
 
 #[derive(Clone, Copy)]
 pub struct Draft {
@@ -16,6 +26,7 @@ pub struct Draft {
     index: Option<i32>,
     downward: Direction,
     upward: Direction,
+    group: GroupDraft,
 }
 
 // One direction.
@@ -35,15 +46,6 @@ enum Reserves {
 }
 
 const NOT_ACTIVATED: Activation = Activation { kwh: 0, price: 0 };
-
-fn once(before: Option<i32>, number: i32) -> Result<Option<i32>, Fault>
-    ensures { λ r. ⌜ r ≡ given-once before number ⌝ }
-{
-    match before {
-        None => Ok(Some(number)),
-        Some(_) => Err(Fault::Repeated),
-    }
-}
 
 impl Reserves {
     fn with(self, next: Activation) -> Result<Reserves, Fault>
@@ -85,7 +87,7 @@ impl Direction {
     {
         match entry {
             DirectionEntry::Bid(price) => Ok(Direction {
-                bid: once(self.bid, price)?,
+                bid: once::given(self.bid, price)?,
                 ..self
             }),
             DirectionEntry::Activated(activation) => Ok(Direction {
@@ -102,6 +104,7 @@ impl Draft {
         index: None,
         downward: Direction::EMPTY,
         upward: Direction::EMPTY,
+        group: GroupDraft::EMPTY,
     };
 
     fn with(self, entry: Entry) -> Result<Draft, Fault>
@@ -109,11 +112,11 @@ impl Draft {
     {
         match entry {
             Entry::ImbalanceKwh(kwh) => Ok(Draft {
-                imbalance_kwh: once(self.imbalance_kwh, kwh)?,
+                imbalance_kwh: once::given(self.imbalance_kwh, kwh)?,
                 ..self
             }),
             Entry::IndexPrice(price) => Ok(Draft {
-                index: once(self.index, price)?,
+                index: once::given(self.index, price)?,
                 ..self
             }),
             Entry::Downward(entry) => Ok(Draft {
@@ -122,6 +125,10 @@ impl Draft {
             }),
             Entry::Upward(entry) => Ok(Draft {
                 upward: self.upward.with(entry)?,
+                ..self
+            }),
+            Entry::OfGroup(entry) => Ok(Draft {
+                group: self.group.with(entry)?,
                 ..self
             }),
         }
@@ -136,7 +143,7 @@ impl Draft {
         }
     }
 
-    pub fn figures(self) -> Result<SystemFigures, Problem>
+    fn figures(self) -> Result<SystemFigures, Problem>
         ensures { λ r. ⌜ r ≡ figures-from self ⌝ }
     {
         let imbalance_kwh = self.imbalance_kwh.ok_or(Problem::NoImbalance)?;
@@ -149,5 +156,13 @@ impl Draft {
             upward_bid: self.upward.bid,
             index,
         })
+    }
+
+    pub fn quarter(self) -> Result<Quarter, Problem>
+        ensures { λ r. ⌜ r ≡ quarter-from self ⌝ }
+    {
+        let figures = self.figures()?;
+        let group = self.group.group()?;
+        Ok(Quarter { figures, group })
     }
 }

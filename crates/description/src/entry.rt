@@ -1,11 +1,13 @@
 // What a line enters.
 ghost use mathlib.Core.Path.{_≡_};
-ghost use Rattle.description.specs.Entries.{number-in, energy-in, at-end, lone-number, activation-in, entry-for, is-ignored, entry-of};
+ghost use Rattle.description.specs.Entries.{number-in, energy-in, at-end, lone-number, activation-in, position-in, entry-for, is-ignored, entry-of};
 use crate::keyword::Keyword;
 use crate::numbers::signed;
 use crate::numbers::unsigned;
 use crate::problem::Fault;
 use crate::words::split_word;
+use charging::Position;
+use charging::Role;
 use pricing::Activation;
 
 #[derive(Clone, Copy)]
@@ -14,6 +16,7 @@ pub enum Entry {
     IndexPrice(i32),
     Downward(DirectionEntry),
     Upward(DirectionEntry),
+    OfGroup(GroupEntry),
 }
 
 // What a line enters for one direction.
@@ -21,6 +24,13 @@ pub enum Entry {
 pub enum DirectionEntry {
     Bid(i32),
     Activated(Activation),
+}
+
+// What a line enters for the group.
+#[derive(Clone, Copy)]
+pub enum GroupEntry {
+    InternalPrice(i32),
+    Member(Position),
 }
 
 fn read_number(word: &[u8]) -> Result<i32, Fault>
@@ -72,6 +82,21 @@ fn read_activation(rest: &[u8]) -> Result<Activation, Fault>
     Ok(Activation { kwh, price })
 }
 
+fn read_position(role: Role, rest: &[u8]) -> Result<Position, Fault>
+    ensures { λ r. ⌜ r ≡ position-in role (now (rest .entry)) ⌝ }
+{
+    let (schedule_word, rest) = split_word(rest);
+    let schedule_kwh = read_energy(schedule_word)?;
+    let (reading_word, rest) = split_word(rest);
+    let reading_kwh = read_energy(reading_word)?;
+    expect_end(rest)?;
+    Ok(Position {
+        role,
+        schedule_kwh,
+        reading_kwh,
+    })
+}
+
 fn read_after(keyword: Keyword, rest: &[u8]) -> Result<Entry, Fault>
     ensures { λ r. ⌜ r ≡ entry-for keyword (now (rest .entry)) ⌝ }
 {
@@ -82,6 +107,13 @@ fn read_after(keyword: Keyword, rest: &[u8]) -> Result<Entry, Fault>
         Keyword::UpBid => Entry::Upward(DirectionEntry::Bid(read_lone_number(rest)?)),
         Keyword::Down => Entry::Downward(DirectionEntry::Activated(read_activation(rest)?)),
         Keyword::Up => Entry::Upward(DirectionEntry::Activated(read_activation(rest)?)),
+        Keyword::Internal => Entry::OfGroup(GroupEntry::InternalPrice(read_lone_number(rest)?)),
+        Keyword::Producer => Entry::OfGroup(GroupEntry::Member(
+            read_position(Role::Producer, rest)?,
+        )),
+        Keyword::Consumer => Entry::OfGroup(GroupEntry::Member(
+            read_position(Role::Consumer, rest)?,
+        )),
     };
     Ok(entry)
 }

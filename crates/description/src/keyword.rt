@@ -11,6 +11,9 @@ pub enum Keyword {
     UpBid,
     Down,
     Up,
+    Internal,
+    Producer,
+    Consumer,
 }
 
 fn is(word: &[u8], name: &str) -> bool
@@ -35,6 +38,12 @@ impl Keyword {
             Some(Keyword::Down)
         } else if is(word, "up") {
             Some(Keyword::Up)
+        } else if is(word, "internal") {
+            Some(Keyword::Internal)
+        } else if is(word, "producer") {
+            Some(Keyword::Producer)
+        } else if is(word, "consumer") {
+            Some(Keyword::Consumer)
         } else {
             None
         }

@@ -1,12 +1,17 @@
 // The description of a quarter of an hour as text, read into system figures.
 mod draft;
 mod entry;
+mod group;
 mod keyword;
 mod numbers;
+mod once;
 mod problem;
 mod reader;
 mod words;
 
+pub use draft::Quarter;
+pub use group::Group;
+pub use group::Members;
 pub use problem::Fault;
 pub use problem::FaultDebug;
 pub use problem::FaultDisplay;

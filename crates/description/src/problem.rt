@@ -45,6 +45,7 @@ pub enum Problem {
     Line { number: usize, fault: Fault },
     NoImbalance,
     NoIndex,
+    NoInternalPrice,
 }
 
 pub impl fmt::Display for Problem as ProblemDisplay {
@@ -55,6 +56,7 @@ pub impl fmt::Display for Problem as ProblemDisplay {
             Problem::Line { number, fault } => write!(f, "line {number}: {fault}"),
             Problem::NoImbalance => write!(f, "no imbalance line"),
             Problem::NoIndex => write!(f, "no index line"),
+            Problem::NoInternalPrice => write!(f, "no internal price line"),
         }
     }
 }

@@ -1,13 +1,13 @@
-// A description read into figures.
+// A description read.
 ghost use mathlib.Core.Path.{_≡_};
-ghost use Rattle.description.specs.Figures.{figures-described};
+ghost use Rattle.description.specs.Figures.{quarter-described};
 use crate::draft::Draft;
+use crate::draft::Quarter;
 use crate::problem::Problem;
 use crate::words::split_line;
-use pricing::SystemFigures;
 
-pub fn read(text: &[u8]) -> Result<SystemFigures, Problem>
-    ensures { λ r. ⌜ r ≡ figures-described (now (text .entry)) ⌝ }
+pub fn read(text: &[u8]) -> Result<Quarter, Problem>
+    ensures { λ r. ⌜ r ≡ quarter-described (now (text .entry)) ⌝ }
 {
     let mut draft = Draft::EMPTY;
     let mut lines_read = 0;
@@ -26,5 +26,5 @@ pub fn read(text: &[u8]) -> Result<SystemFigures, Problem>
         };
         rest = following;
     }
-    draft.figures()
+    draft.quarter()
 }

@@ -9,6 +9,10 @@ use Rattle.pricing.specs.declared.figures.Activation.{Activation}
 use Rattle.pricing.specs.declared.figures.Activations.{Activations}
 use Rattle.pricing.specs.declared.figures.SystemFigures.{SystemFigures}
 use Rattle.pricing.specs.Prices.{price-of}
+use Rattle.sharing.specs.InOrder.{in-order}
+use Rattle.sharing.specs.Proportional.{proportional}
+use Rattle.sharing.specs.Rests.{netted}
+use Rattle.sheet.specs.Lines.{everybody}
 
 -- ---- figures
 
@@ -38,13 +42,21 @@ figures imbalance downward upward index = record {
 abbrev pub with-imbalance : ℤ → SystemFigures
 with-imbalance imbalance = figures imbalance (two (60000 at pos 4000) (20000 at negsuc 1999)) none (pos 9000)
 
+-- ---- rests
+
+abbrev pub four-rests : List ℤ
+four-rests = pos 4000 ∷ negsuc 1999 ∷ negsuc 999 ∷ pos 3000 ∷ []
+
 -- ---- the table; `negsuc 1999` is minus 2,000
 
 pub data Row : Type 0 where
   priced : SystemFigures → ℤ → Row
+  -- what a rule nets of these rests, where everybody is in the set
+  nets : (ℕ → List ℤ → List ℤ) → List ℤ → List ℤ → Row
 
 abbrev pub Holds : Row → Type 0
 Holds (priced f price) = price-of f ≡ Ok price
+Holds (nets rule rests energies) = netted rests (rule everybody rests) ≡ energies
 
 abbrev pub Holds-throughout : List Row → Type 0
 Holds-throughout [] = Unit {0}
@@ -63,4 +75,7 @@ table =
     ∷ priced (figures (negsuc 59999) none (two (30000 at pos 20000) (10000 at pos 23334)) (negsuc 1999)) (pos 25000)
     -- a half is rounded away from zero
     ∷ priced (figures (pos 1) (two (1 at negsuc 2) (1 at negsuc 3)) none (pos 3000)) (negsuc 3)
+    -- the shortage of 3,000 is netted whole, and of the surplus as much
+    ∷ nets proportional four-rests (pos 1714 ∷ negsuc 1999 ∷ negsuc 999 ∷ pos 1286 ∷ [])
+    ∷ nets in-order four-rests (pos 3000 ∷ negsuc 1999 ∷ negsuc 999 ∷ pos 0 ∷ [])
     ∷ []

@@ -1,7 +1,10 @@
 // The report on a price, part by part.
 ghost use mathlib.Core.Path.{_≡_};
 ghost use Rattle.std.specs.declared.option.Option.the-variants.{Some};
-ghost use Rattle.explanation.specs.Words.{rounded-text, fraction-text, side-line, origin-words, base-line, index-line, scaled-line, stage-words, stage-line, price-line, report-text};
+ghost use Rattle.explanation.specs.Words.{rounded-text, fraction-text, side-line, origin-words, base-line, index-line, scaled-line, stage-words, stage-line, price-line, derivation-text, report-text};
+use crate::group::GroupSheet;
+use crate::sheet_text::SheetPart;
+use crate::sheet_text::SheetPartDisplay;
 use pricing::Base;
 use pricing::Derivation;
 use pricing::Fraction;
@@ -151,12 +154,12 @@ impl fmt::Display for PriceLine as PriceLineDisplay {
     }
 }
 
-// How a price came about, as text.
+// How a price came about.
 #[derive(Clone, Copy)]
-pub struct Report(pub Derivation);
+struct PricePart(Derivation);
 
-pub impl fmt::Display for Report as ReportDisplay {
-    ghost shown = { λ r. Some (report-text (r .0)) };
+impl fmt::Display for PricePart as PricePartDisplay {
+    ghost shown = { λ r. Some (derivation-text (r .0)) };
 
     fn fmt<W: fmt::Write>(&self, f: &mut fmt::Formatter<W>) -> fmt::Result {
         match self.0 {
@@ -183,5 +186,22 @@ pub impl fmt::Display for Report as ReportDisplay {
                 write!(f, "{side_line}{base}{index}{scaled}{decided}{price}")
             }
         }
+    }
+}
+
+// How the price of a quarter of an hour came about, and the sheet of its group, where one is listed.
+#[derive(Clone, Copy)]
+pub struct Report {
+    pub derivation: Derivation,
+    pub sheet: Option<GroupSheet>,
+}
+
+pub impl fmt::Display for Report as ReportDisplay {
+    ghost shown = { λ r. Some (report-text r) };
+
+    fn fmt<W: fmt::Write>(&self, f: &mut fmt::Formatter<W>) -> fmt::Result {
+        let price = PricePart(self.derivation);
+        let sheet = SheetPart(self.sheet);
+        write!(f, "{price}{sheet}")
     }
 }

@@ -1,15 +1,31 @@
-// From the description of a quarter of an hour to the report on its price.
+// From the description of a quarter of an hour to the report on its price and on the group.
 ghost use mathlib.Core.Path.{_≡_};
-ghost use Rattle.explanation.specs.Explained.{explanation-of};
+ghost use Rattle.explanation.specs.Explained.{explanation-of, sheet-if-any};
 use crate::failure::Failure;
 use crate::failure::FailureFromProblem;
 use crate::failure::FailureFromReason;
+use crate::failure::FailureFromRefusal;
+use crate::group::GroupSheet;
+use crate::group::draw_sheet;
 use crate::report::Report;
+use description::Group;
+use refusal::Refusal;
 
-// How the price of the quarter of an hour came about that the text describes.
+fn draw_if_any(group: &Option<Group>, price: i32) -> Result<Option<GroupSheet>, Refusal>
+    ensures { λ r. ⌜ r ≡ sheet-if-any (now (group .entry)) price ⌝ }
+{
+    match group {
+        Some(group) => Ok(Some(draw_sheet(group, price)?)),
+        None => Ok(None),
+    }
+}
+
+// How the price of the quarter of an hour came about that the text describes, and what its group's members net and pay.
 pub fn explain(text: &[u8]) -> Result<Report, Failure>
     ensures { λ r. ⌜ r ≡ explanation-of (now (text .entry)) ⌝ }
 {
-    let figures = description::read(text)?;
-    Ok(Report(pricing::derive(&figures)?))
+    let quarter = description::read(text)?;
+    let derivation = pricing::derive(&quarter.figures)?;
+    let sheet = draw_if_any(&quarter.group, derivation.price())?;
+    Ok(Report { derivation, sheet })
 }

@@ -11,6 +11,9 @@ pub const ACTIVATION_LIMIT_KWH: u32 = 1_000_000;
 // The largest size of an index, a bid or an activation's price, in stotinki per MWh.
 pub const OFFER_LIMIT: u32 = 3_000_000;
 
+// The largest size of a price, given or worked out, in stotinki per MWh.
+pub const PRICE_LIMIT: u32 = 30_000_000;
+
 // Balancing energy that was activated, and its price in stotinki per MWh.
 #[derive(Clone, Copy, PartialEq, Eq, Debug)]
 pub struct Activation {

@@ -143,35 +143,35 @@ mod tests {
             &[
                 (
                     "imbalance 500001\nindex 0",
-                    "refused 9: a figure out of range",
+                    "refused 9: a figure out of range (run)",
                 ),
                 (
                     "imbalance -500001\nindex 0",
-                    "refused 9: a figure out of range",
+                    "refused 9: a figure out of range (run)",
                 ),
                 (
                     "imbalance 1\ndown 1000001 0\nindex 0",
-                    "refused 9: a figure out of range",
+                    "refused 9: a figure out of range (run)",
                 ),
                 (
                     "imbalance 0\nup 0 3000001\nindex 0",
-                    "refused 9: a figure out of range",
+                    "refused 9: a figure out of range (run)",
                 ),
                 (
                     "imbalance 0\nup-bid -3000001\nindex 0",
-                    "refused 9: a figure out of range",
+                    "refused 9: a figure out of range (run)",
                 ),
                 (
                     "imbalance 1\nindex -3000001",
-                    "refused 9: a figure out of range",
+                    "refused 9: a figure out of range (run)",
                 ),
                 (
                     "imbalance 1\nup 7 7\nup-bid 7\nindex 0",
-                    "refused 10: no base for a price",
+                    "refused 10: no base for a price (run)",
                 ),
                 (
                     "imbalance -1\ndown 7 7\nup 0 7\ndown-bid 7\nindex 0",
-                    "refused 10: no base for a price",
+                    "refused 10: no base for a price (run)",
                 ),
             ],
         )
@@ -218,6 +218,51 @@ mod tests {
                 ("", "no imbalance line"),
                 ("index 1", "no imbalance line"),
                 ("imbalance 1", "no index line"),
+            ],
+        )
+    }
+
+    #[test]
+    fn groups_are_netted(rt: LibcRuntime) -> Result<(), Fail> {
+        check_all(
+            rt.alloc(),
+            &[
+                (
+                    "imbalance 0\nindex -50\ninternal -7\nconsumer 500000 0\n",
+                    "The system is in balance: the price is the index.\n\
+                     Price: -50 stotinki per MWh\n\
+                     Netted in proportion, at an internal price of -7 stotinki per MWh. Energy in kWh, money in thousandths of a stotinka.\n\
+                     Member 0: imbalance 500000, netted 0, outside 500000, money -25000000\n\
+                     Total: imbalance 500000, netted 0, outside 500000, money -25000000\n",
+                ),
+                (
+                    "producer 5 2\nproducer 2 3\nconsumer 3 2\ninternal 10\nimbalance 0\nindex 100\n",
+                    "The system is in balance: the price is the index.\n\
+                     Price: 100 stotinki per MWh\n\
+                     Netted in proportion, at an internal price of 10 stotinki per MWh. Energy in kWh, money in thousandths of a stotinka.\n\
+                     Member 0: imbalance -3, netted -2, outside -1, money -120\n\
+                     Member 1: imbalance 1, netted 1, outside 0, money 10\n\
+                     Member 2: imbalance 1, netted 1, outside 0, money 10\n\
+                     Total: imbalance -1, netted 0, outside -1, money -100\n",
+                ),
+                (
+                    "imbalance 0\nindex 0\nproducer 1 1\n",
+                    "no internal price line",
+                ),
+                (
+                    "imbalance 0\nindex 0\ninternal 3000001\nproducer 1 1\n",
+                    "refused 4: opening or book figures outside the limits (run)",
+                ),
+                (
+                    "imbalance 0\nindex 0\ninternal 1\nproducer 1 1\nconsumer 500001 1\n",
+                    "refused 9: a figure out of range (run, member 1)",
+                ),
+                ("producer 1\n", "line 1: a number is missing"),
+                (
+                    "consumer 1 -1\n",
+                    "line 1: not an energy: at most nine digits and no sign",
+                ),
+                ("internal 1\ninternal 1\n", "line 2: given once too often"),
             ],
         )
     }

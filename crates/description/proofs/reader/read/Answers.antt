@@ -7,7 +7,7 @@ use lib.ListN.{length}
 use borrow.Author.Needs.{needs}
 use Rattle.std.proofs.shelf.Lists.{length-drop, nil-from-length}
 use Rattle.description.specs.Words.{lines-of}
-use Rattle.description.specs.Figures.{figures-after}
+use Rattle.description.specs.Figures.{quarter-after}
 use Rattle.description.proofs.Lines.{line-length, at-fault, past-line}
 use Rattle.description.proofs.reader.read.Needs as need
 
@@ -37,4 +37,4 @@ pub returns : need.returns
 returns c =
     let rest : List ℕ = c .loop-rest .rest .now in
     let none : length rest ≡ 0 = search needs in
-    c .figures .ensures ∙ ap (λ (xs : List ℕ). figures-after (c .loop-rest .lines-read + 1) (c .loop-rest .draft) (lines-of xs)) (sym (nil-from-length rest none)) ∙ c .loop-rest .inv .1
+    c .quarter .ensures ∙ ap (λ (xs : List ℕ). quarter-after (c .loop-rest .lines-read + 1) (c .loop-rest .draft) (lines-of xs)) (sym (nil-from-length rest none)) ∙ c .loop-rest .inv .1

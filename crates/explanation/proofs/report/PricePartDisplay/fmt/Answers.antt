@@ -3,7 +3,7 @@ use borrow.Author.Needs.{needs}
 use mir.Syntax.{w32}
 use mir.Val.{SFits}
 use Rattle.std.proofs.shelf.Signed.{toZ-ofZ}
-use Rattle.explanation.proofs.report.ReportDisplay.fmt.Needs as need
+use Rattle.explanation.proofs.report.PricePartDisplay.fmt.Needs as need
 
 pub returns-in-Decided : need.returns-in-Decided
 returns-in-Decided g c =

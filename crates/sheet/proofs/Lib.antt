@@ -1,0 +1,4 @@
+pub mod Judging
+pub mod Products
+pub mod Footing
+pub mod Balancing

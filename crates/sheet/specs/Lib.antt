@@ -1,0 +1,4 @@
+pub mod Lines
+pub mod Verdict
+pub mod Sums
+pub mod Balance
