@@ -3,6 +3,7 @@ use mathlib.Core.List.{List, _++_}
 use Prim.Native.Nat.{ℕ}
 use lib.IntN.{ℤ, pos}
 use lib.ListN.{length, drop, replicate}
+use Rattle.std.specs.Slices.{found}
 use Rattle.std.specs.declared.option.Option.{Option}
 use Rattle.std.specs.declared.option.Option.the-variants.{None, Some}
 use Rattle.std.specs.declared.result.Result.{Result}
@@ -17,6 +18,7 @@ use Rattle.pricing.specs.Prices.{derivation-of, price-in}
 use Rattle.sharing.specs.Proportional.{proportional}
 use Rattle.sharing.specs.Verdict.{most-members}
 use Rattle.sheet.specs.declared.line.SheetLine.{SheetLine}
+use Rattle.sheet.specs.Balance.{Adds-up}
 use Rattle.sheet.specs.Lines.{sheet-of}
 use Rattle.sheet.specs.Verdict.{sheet-verdict}
 use Rattle.description.specs.declared.draft.Quarter.{Quarter}
@@ -29,6 +31,7 @@ use Rattle.explanation.specs.declared.failure.Failure.{Failure}
 use Rattle.explanation.specs.declared.failure.Failure.the-variants.{Unreadable, Refused}
 use Rattle.explanation.specs.declared.group.GroupSheet.{GroupSheet}
 use Rattle.explanation.specs.declared.report.Report.{Report}
+use Rattle.explanation.specs.Words.{drawn-lines}
 
 -- ---- the group
 
@@ -81,6 +84,17 @@ as-read (Err problem) = Err (Unreadable problem)
 
 abbrev pub explanation-of : List ℕ → Result Report Failure
 explanation-of text = as-read (quarter-described text)
+
+-- ---- what holds of every sheet that is reported
+
+-- inside the group it comes to nothing, and outside to the operator's bill at this price
+abbrev pub Sheet-adds-up : ℤ → GroupSheet → Type 0
+Sheet-adds-up price sheet = Adds-up price (drawn-lines sheet)
+
+abbrev pub Report-adds-up : Report → Type 0
+Report-adds-up report = found (report .sheet) (Sheet-adds-up (price-in (report .derivation)))
+
+-- ---- what is told of a failure
 
 -- as in 'line 3: unknown keyword' and 'refused 10: no base for a price (run)'
 abbrev pub failure-text : Failure → List ℕ

@@ -1,6 +1,7 @@
 // The sheet of the group that a description lists, netted in proportion.
 ghost use mathlib.Core.Path.{_≡_};
-ghost use Rattle.explanation.specs.Explained.{group-sheet};
+ghost use Rattle.std.specs.Vec.{made};
+ghost use Rattle.explanation.specs.Explained.{group-sheet, Sheet-adds-up};
 use description::Group;
 use refusal::Refusal;
 use sharing::ByProportionApportion;
@@ -25,7 +26,8 @@ const BLANK: SheetLine = SheetLine {
 };
 
 pub fn draw_sheet(group: &Group, price: i32) -> Result<GroupSheet, Refusal>
-    ensures { λ r. ⌜ r ≡ group-sheet (now (group .entry)) price ⌝ }
+    ensures value { λ r. ⌜ r ≡ group-sheet (now (group .entry)) price ⌝ }
+    ensures adds_up { λ r. ⌜ made r (Sheet-adds-up price) ⌝ }
 {
     let internal_price = group.internal_price;
     let positions = group.members.positions();
