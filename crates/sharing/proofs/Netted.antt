@@ -16,12 +16,11 @@ use Rattle.sharing.specs.declared.side.Side.{Side}
 use Rattle.sharing.specs.declared.side.Side.the-variants.{Surplus, Shortage}
 use Rattle.sharing.specs.Law.{From-zero-to, Lawful}
 use Rattle.sharing.specs.Netting.{nettable, taken-off, netting, Nets-all}
-use Rattle.sharing.specs.Proportional.{shares-in-proportion, proportional, By-weight}
 use Rattle.sharing.specs.Rests.{in-set, energy, energies-from, energies, total, netted}
 use Rattle.sharing.specs.Verdict.{verdict}
 use Rattle.sharing.specs.Ways.{Modest, Shared-out}
 use Rattle.sharing.proofs.Energies.{energies-at, energies-modest, same-long}
-use Rattle.sharing.proofs.Shares.{sum-cons, shares-near, proportion-shared-out}
+use Rattle.sharing.proofs.Amounts.{sum-cons}
 
 taken-off-length : (xs : List ℤ) (ns ms : List ℕ) → length (taken-off xs ns ms) ≡ length xs
 taken-off-length [] ns ms = refl
@@ -138,12 +137,3 @@ module _ (f : ℕ → List ℕ → List ℕ) (shared-out : (n : ℕ) (xs : List 
 
   pub netting-nets-all : Nets-all s xs (netting f s xs)
   netting-nets-all d = ap sum (netting-nets d) ∙ share d .whole
-
--- in proportion
-pub proportional-by-weight : (s : ℕ) (xs : List ℤ) → verdict xs ≡ Ok tt → By-weight s xs (proportional s xs)
-proportional-by-weight s xs ok =
-    let shared-out = λ (n : ℕ) (ys : List ℕ) (m : Modest ys) (h : n ≤ sum ys). proportion-shared-out n ys h in
-    record {
-      near-share = λ d i h. rw (netting-nets shares-in-proportion shared-out s xs ok d) (shares-near (nettable s xs) (sum (energies d s xs)) 0 (energies d s xs) h i);
-      nets-all = netting-nets-all shares-in-proportion shared-out s xs ok;
-    }

@@ -1,12 +1,12 @@
 // Ways of sharing an amount out among members by what each has.
-// The trait is not exported: what a way requires is met by this crate's own netting alone.
+// The trait stays in the crate, since its method asks what only the netting here is known to meet.
 ghost use mathlib.Core.Path.{_≡_};
 ghost use mathlib.Core.List.{List};
 ghost use Prim.Native.Nat.{ℕ, _<_, _≤_, _^_};
 ghost use Rattle.std.specs.shelf.Lists.{sum};
 ghost use Rattle.sharing.specs.Ways.{Modest, Shared-out};
 
-pub trait Apportion {
+pub(crate) trait Apportion {
     // How much each member gets of an amount, by what each has.
     ghost shares: { Self → ℕ → List ℕ → List ℕ };
 
@@ -20,7 +20,7 @@ pub trait Apportion {
 }
 
 // What all members have together.
-pub fn total_of(own: &[u32]) -> u32
+pub(crate) fn total_of(own: &[u32]) -> u32
     requires { ⌜ sum (now own) < 2 ^ 32 ⌝ }
     ensures { λ r. ⌜ r ≡ sum (now (own .entry)) ⌝ }
 {

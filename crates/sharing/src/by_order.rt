@@ -3,6 +3,7 @@ ghost use Rattle.sharing.specs.InOrder.{shares-in-order};
 use crate::apportion::Apportion;
 use crate::netting::Netting;
 
+// In member order, each the smaller of what he has and what is left.
 #[derive(Clone, Copy)]
 pub struct ByOrder;
 

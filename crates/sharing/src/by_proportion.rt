@@ -10,6 +10,7 @@ use crate::netting::NettingRule;
 use crate::rule::SharingRule;
 use refusal::Refusal;
 
+// Each his part of the amount, by his part of what all have.
 #[derive(Clone, Copy)]
 pub struct ByProportion;
 
@@ -22,7 +23,7 @@ impl Proportional {
 pub impl Apportion for ByProportion as ByProportionApportion {
     ghost shares = { λ _. shares-in-proportion };
 
-    // Each share is a difference of floors of running sums, so that the shares add up to the amount.
+    // A difference of floors of running sums: so no kWh is lost to rounding.
     fn apportion(&self, amount: u32, own: &mut [u32]) {
         let all = total_of(own) as u64;
         if all == 0 {
@@ -39,7 +40,7 @@ pub impl Apportion for ByProportion as ByProportionApportion {
     }
 }
 
-// Shares by proportion, and says of it what the published method by weights asks.
+// Shares by the proportional rule: each member nets his weight of what can be netted, to within one kWh.
 pub fn share_by_weight(set: u64, rests: &mut [i32]) -> Result<(), Refusal>
     ensures answer { λ r. ⌜ r ≡ verdict (now (rests .entry)) ⌝ }
     ensures after { λ _. ⌜ now (rests .exit) ≡ outcome (proportional set) (now (rests .entry)) ⌝ }

@@ -15,7 +15,7 @@ use crate::rule::check;
 use crate::side::Side;
 use refusal::Refusal;
 
-// Each side nets the smaller of the set's surplus and its shortage, shared out by a way of apportioning.
+// A rule by which each side nets the smaller of the set's surplus and its shortage, shared out by a way of apportioning.
 #[derive(Clone, Copy)]
 pub struct Netting<P> {
     pub by: P,
@@ -45,6 +45,7 @@ fn take_off(rests: &mut [i32], surplus: &[u32], shortage: &[u32])
     }
 }
 
+// Nets the rests of a list that a rule accepts, on both sides by the same way of apportioning.
 fn net<P: Apportion>(by: &P, set: u64, rests: &mut [i32])
     requires { ⌜ verdict (now rests) ≡ Ok tt ⌝ }
     ensures { λ _. ⌜ now (rests .exit) ≡ netting (P·Apportion .shares (now (by .entry))) set (now (rests .entry)) ⌝ }
@@ -65,6 +66,7 @@ fn net<P: Apportion>(by: &P, set: u64, rests: &mut [i32])
 pub impl<P: Apportion> SharingRule for Netting<P> as NettingRule {
     ghost meaning = { λ rule. netting (P·Apportion .shares (rule .by)) };
 
+    // Beyond what every rule promises: the members net together all that can be netted.
     fn share(&self, set: u64, rests: &mut [i32]) -> Result<(), Refusal>
         ensures answer { λ r. ⌜ r ≡ verdict (now (rests .entry)) ⌝ }
         ensures after { λ _. ⌜ now (rests .exit) ≡ outcome (netting (P·Apportion .shares (now (self .entry) .by)) set) (now (rests .entry)) ⌝ }

@@ -28,7 +28,7 @@ pub trait SharingRule {
 }
 
 // Whether a rule accepts a list of rests.
-pub fn check(rests: &[i32]) -> Result<(), Refusal>
+pub(crate) fn check(rests: &[i32]) -> Result<(), Refusal>
     ensures { λ r. ⌜ r ≡ verdict (now (rests .entry)) ⌝ }
 {
     if rests.len() > MOST_MEMBERS {

@@ -7,7 +7,7 @@ ghost use Rattle.sharing.specs.Rests.{in-set, energy, energies};
 ghost use Rattle.sharing.specs.Verdict.{most-members};
 
 #[derive(Clone, Copy)]
-pub enum Side {
+pub(crate) enum Side {
     Surplus,
     Shortage,
 }
@@ -44,7 +44,7 @@ impl Side {
     }
 
     // Lists the energy of each member on this side.
-    pub fn list(self, set: u64, rests: &[i32], own: &mut [u32])
+    pub(crate) fn list(self, set: u64, rests: &[i32], own: &mut [u32])
         requires few { ⌜ length (now rests) ≤ most-members ⌝ }
         requires room { ⌜ length (now own) ≡ length (now rests) ⌝ }
         ensures { λ _. ⌜ now (own .exit) ≡ energies self set (now (rests .entry)) ⌝ }

@@ -1,7 +1,7 @@
 -- What the calls ask: the energies are modest, and so are the shares of them.
 use native.Mathlib.Omega.{arith}
 use Rattle.sharing.proofs.Accepting.{accepted-parts, in-range-at}
-use Rattle.sharing.proofs.Apportioning.{modest-sum}
+use Rattle.sharing.proofs.Amounts.{modest-sum}
 use Rattle.sharing.proofs.Energies.{listed-modest, shares-long, shares-small}
 use Rattle.sharing.proofs.netting.net.Needs as need
 

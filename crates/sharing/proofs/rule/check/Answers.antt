@@ -1,5 +1,5 @@
 -- A rest out of range makes the list so, and a list with none is in range.
-use mathlib.Core.Path.{_≡_, sym}
+use mathlib.Core.Path.{sym}
 use native.Mathlib.Omega.{arith}
 use lib.IntN.{pos}
 use lib.ListN.{getD}

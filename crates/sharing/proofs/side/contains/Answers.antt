@@ -1,9 +1,7 @@
 -- A set shifted by i and cut to one bit is the bit of member i.
-use mathlib.Core.Path.{ap}
 use Prim.Native.Nat.{_/_, _^_}
-use lib.Dec.{eqb}
 use Rattle.std.proofs.shelf.Bits.{and-mask}
 use Rattle.sharing.proofs.side.contains.Needs as need
 
 pub returns : need.returns
-returns c = ap (λ k. eqb k 1) (and-mask (c .args .set / 2 ^ c .args .i) 1)
+returns c = let bit = and-mask (c .args .set / 2 ^ c .args .i) 1 in cc

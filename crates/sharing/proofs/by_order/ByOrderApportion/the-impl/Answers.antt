@@ -1,5 +1,5 @@
 -- Shares in order are within each own, and together the amount.
-use Rattle.sharing.proofs.Shares.{order-shared-out}
+use Rattle.sharing.proofs.Orders.{order-shared-out}
 use Rattle.sharing.proofs.by_order.ByOrderApportion.the-impl.Needs as need
 
 pub whole-law : need.whole-law

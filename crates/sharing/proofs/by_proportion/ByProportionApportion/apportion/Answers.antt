@@ -1,11 +1,11 @@
 -- No sum or product overflows, each turn writes one share more, and at the end all are written.
-use mathlib.Core.Path.{_≡_, refl, sym, ap, _∙_}
+use mathlib.Core.Path.{refl, sym, ap, _∙_}
 use Prim.Native.Nat.{_+_, _-_, _*_, _/_}
 use native.Mathlib.Omega.{arith}
 use lib.ListN.{getD}
 use Rattle.sharing.specs.Proportional.{shares-after}
-use Rattle.sharing.proofs.Apportioning.{modest-sum, owned-within, owned-more, product-small, proportion-more, proportion-none}
-use Rattle.sharing.proofs.Shares.{floor-grows, floor-step}
+use Rattle.sharing.proofs.Amounts.{modest-sum}
+use Rattle.sharing.proofs.Proportions.{floor-grows, floor-step, owned-within, owned-more, product-small, proportion-more, proportion-none}
 use Rattle.sharing.proofs.Writing.{write-all}
 use Rattle.sharing.proofs.by_proportion.ByProportionApportion.apportion.Needs as need
 

@@ -1,5 +1,5 @@
 -- Shares in proportion are within each own, and together the amount.
-use Rattle.sharing.proofs.Shares.{proportion-shared-out}
+use Rattle.sharing.proofs.Proportions.{proportion-shared-out}
 use Rattle.sharing.proofs.by_proportion.ByProportionApportion.the-impl.Needs as need
 
 pub whole-law : need.whole-law

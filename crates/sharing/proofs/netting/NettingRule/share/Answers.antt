@@ -1,5 +1,5 @@
 -- An accepted call nets all that can be netted.
-use mathlib.Core.Path.{_≡_, sym, _∙_}
+use mathlib.Core.Path.{_≡_}
 use borrow.Author.Needs.{needs}
 use Rattle.std.specs.declared.result.Result.the-variants.{Ok}
 use Rattle.sharing.specs.Verdict.{verdict}

@@ -1,10 +1,9 @@
 -- Each turn writes one energy more, and at the end all are written.
-use mathlib.Core.Path.{refl, sym, ap, _∙_}
-use mathlib.Core.List.{_∷_}
+use mathlib.Core.Path.{refl, sym, _∙_}
 use Prim.Native.Nat.{_+_}
 use native.Mathlib.Omega.{arith}
 use lib.IntN.{pos}
-use lib.ListN.{getD, drop}
+use lib.ListN.{getD}
 use mir.Syntax.{w32}
 use mir.Val.{SFits}
 use borrow.Author.Needs.{needs}
@@ -20,7 +19,7 @@ loop-i-again c =
     let later = energies-from (i + 1) (c .args .self) (c .args .set) in
     let fits : SFits w32 (getD xs i (pos 0)) = search needs in
     let is = simp toZ-ofZ at (c .of-member .ensures) in
-    write-more (energies-from i (c .args .self) (c .args .set)) later xs (c .loop-i .own) i (pos 0) _ (omega arith) (omega arith) (ap (λ v. v ∷ later (drop (i + 1) xs)) (sym is))
+    write-more (energies-from i (c .args .self) (c .args .set)) later xs (c .loop-i .own) i (pos 0) _ (omega arith) (omega arith) (cc is)
     ∙ c .loop-i .inv
 
 pub returns : need.returns

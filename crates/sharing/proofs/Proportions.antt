@@ -1,19 +1,18 @@
--- Shares in proportion and shares in order are shared out as they should be, and those in proportion are near the exact ones.
+-- Shares in proportion: they are shared out as they should be, each is within one of the exact share, and the loop writes them.
 use mathlib.Core.Path.{_≡_, refl, ap, _∙_}
-use mathlib.Core.List.{List, [], _∷_}
-use Prim.Native.Nat.{ℕ, zero, suc, _+_, _-_, _*_, _/_, _%_, _<_, _≤_, min}
+use mathlib.Core.List.{List, [], _∷_, _++_}
+use Prim.Native.Nat.{ℕ, zero, suc, _+_, _-_, _*_, _/_, _<_, _≤_}
 use native.Mathlib.Omega.{arith}
 use native.Mathlib.Nat.{div-zero, zero-div, add-mul-div-left, mul-div-cancel, mul-add, add-mul, mul-le-mul-right, le-div-iff-mul-le, div-mul-le-self, le-trans, add-zero, zero-add, mul-zero}
-use lib.ListN.{length, getD}
+use lib.ListN.{length, getD, set, take, drop}
 use Rattle.std.specs.shelf.Lists.{sum}
-use Rattle.std.proofs.shelf.Bits.{div-add-mod', mod-below}
-use Rattle.std.proofs.shelf.Sums.{sumBy-cons}
-use Rattle.sharing.specs.InOrder.{shares-in-order}
-use Rattle.sharing.specs.Ways.{Shared-out}
+use Rattle.std.proofs.shelf.Bits.{div-add-mod', mod-below, mul-le}
+use Rattle.std.proofs.shelf.Lists.{drop-set-lt}
+use Rattle.std.proofs.shelf.Sums.{sumBy-drop-more}
 use Rattle.sharing.specs.Proportional.{shares-after, shares-in-proportion, Near-share}
-
-pub sum-cons : (x : ℕ) (xs : List ℕ) → sum (x ∷ xs) ≡ x + sum xs
-sum-cons x xs = sumBy-cons (λ y. y) x xs
+use Rattle.sharing.specs.Ways.{Shared-out}
+use Rattle.sharing.proofs.Amounts.{sum-cons}
+use Rattle.sharing.proofs.Writing.{rewrite-more}
 
 div-mono : (a b t : ℕ) → a ≤ b → a / t ≤ b / t
 div-mono a b zero h = omega (arith, div-zero a, div-zero b)
@@ -75,23 +74,28 @@ proportion-shared-out n xs h = record {
   whole = whole-floor n (sum xs) _ h (proportion-sum n (sum xs) 0 xs);
 }
 
-order-length : (n : ℕ) (xs : List ℕ) → length (shares-in-order n xs) ≡ length xs
-order-length n [] = refl
-order-length n (x ∷ xs) = ap suc (order-length (n - x) xs)
+-- where nobody has anything, nobody gets anything
+pub proportion-none : (n t u : ℕ) (xs : List ℕ) → t ≡ 0 → sum xs ≡ 0 → shares-after u n t xs ≡ xs
+proportion-none n t u [] e h = refl
+proportion-none n t u (x ∷ xs) e h =
+    let x0 : x ≡ 0 = omega (arith, sum-cons x xs) in
+    let d : n * (u + x) / t - n * u / t ≡ x = rw (e, div-zero (n * (u + x))) (omega arith) in
+    rw (d, proportion-none n t (u + x) xs e (omega (arith, sum-cons x xs)))
 
-order-within : (n : ℕ) (xs : List ℕ) (i : ℕ) → getD (shares-in-order n xs) i 0 ≤ getD xs i 0
-order-within n [] i = omega arith
-order-within n (x ∷ xs) zero = omega arith
-order-within n (x ∷ xs) (suc i) = order-within (n - x) xs i
+-- member i of a loop in proportion, where u is what the members before have of all t
+module _ (n t u i : ℕ) (ys : List ℕ) (h : i < length ys) (inv : u + sum (drop i ys) ≡ t) where
+  left-more : sum (drop i ys) ≡ getD ys i 0 + sum (drop (i + 1) ys)
+  left-more = sumBy-drop-more (λ y. y) ys i 0 h
 
-order-sum : (n : ℕ) (xs : List ℕ) → sum (shares-in-order n xs) ≡ min n (sum xs)
-order-sum n [] = omega arith
-order-sum n (x ∷ xs) =
-    omega (arith, sum-cons x xs, sum-cons (min x n) (shares-in-order (n - x) xs), order-sum (n - x) xs)
+  pub owned-within : u + getD ys i 0 ≤ t
+  owned-within = omega (arith, left-more)
 
-pub order-shared-out : (n : ℕ) (xs : List ℕ) → n ≤ sum xs → Shared-out n xs (shares-in-order n xs)
-order-shared-out n xs h = record {
-  same-length = order-length n xs;
-  within-own = order-within n xs;
-  whole = omega (arith, order-sum n xs);
-}
+  pub owned-more : (v : ℕ) → u + getD ys i 0 + sum (drop (i + 1) (set ys i v)) ≡ t
+  owned-more v = rw (drop-set-lt (i + 1) ys i v (omega arith)) (omega (arith, left-more))
+
+  pub product-small : n ≤ t → t ≤ 32000000 → n * (u + getD ys i 0) < 18446744073709551616
+  product-small a b = omega (arith, mul-le n (u + getD ys i 0) 32000000 32000000 (omega arith) (omega (arith, owned-within)))
+
+  pub proportion-more : (v : ℕ) → v ≡ n * (u + getD ys i 0) / t - n * u / t
+      → take (i + 1) (set ys i v) ++ shares-after (u + getD ys i 0) n t (drop (i + 1) (set ys i v)) ≡ take i ys ++ shares-after u n t (drop i ys)
+  proportion-more v is = rewrite-more (shares-after u n t) (shares-after (u + getD ys i 0) n t) ys i 0 v h (rw is)
