@@ -35,6 +35,7 @@ fn check_positions(positions: &[Position]) -> Result<(), Refusal>
     Ok(())
 }
 
+// Whether a sheet of so many lines can be drawn.
 pub fn check(
     internal_price: i32,
     price: i32,
