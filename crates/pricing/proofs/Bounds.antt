@@ -1,11 +1,11 @@
 -- How large energies, costs, the base and the candidates can be where the figures are in range.
-use mathlib.Core.Path.{_≡_, refl, sym, ap, subst, _∙_}
-use mathlib.Core.Bool.{Bool, true, false, cond, _&&_}
-use Prim.Native.Nat.{ℕ, suc, _+_, _*_, _≤_, _<_}
+use mathlib.Core.Path.{_≡_, refl}
+use mathlib.Core.Bool.{true, _&&_}
+use Prim.Native.Nat.{ℕ, _*_, _≤_}
 use native.Mathlib.Nat.{mul-le-mul-right}
 use native.Mathlib.Omega.{arith}
-use lib.Dec.{leb, ltb, eqb}
-use lib.IntN.{ℤ, pos, negsuc, negℤ, natAbs, _+ℤ_}
+use lib.Dec.{leb, eqb}
+use lib.IntN.{ℤ, natAbs}
 use Rattle.std.specs.Vec.{made}
 use Rattle.std.specs.declared.option.Option.{Option}
 use Rattle.std.specs.declared.option.Option.the-variants.{None, Some}
@@ -19,9 +19,9 @@ use Rattle.pricing.specs.declared.fraction.Fraction.{Fraction}
 use Rattle.pricing.specs.declared.derivation.Base.{Base}
 use Rattle.pricing.specs.declared.derivation.Side.{Side}
 use Rattle.pricing.specs.declared.derivation.Side.the-variants.{Surplus, Shortage}
-use Rattle.pricing.specs.Limits.{activation-limit, offer-limit, offer-in-range, bid-in-range, activation-in-range, activations-in-range}
-use Rattle.pricing.specs.Fractions.{_over_, Bounded}
-use Rattle.pricing.specs.Stages.{toward, activated-kwh, cost, activated-cost, mean, bid-alone, base-of, margin-quarters, beside-index, scaled}
+use Rattle.pricing.specs.Limits.{imbalance-limit, activation-limit, offer-limit, price-limit, base-grain, candidate-grain, offer-in-range, bid-in-range, activation-in-range, activations-in-range}
+use Rattle.pricing.specs.Fractions.{Bounded}
+use Rattle.pricing.specs.Stages.{toward, activated-kwh, cost, mean, bid-alone, base-of, margin-quarters, beside-index, scaled}
 use Rattle.pricing.proofs.Products.{size-of-minus, size-of-product}
 
 -- ---- activations
@@ -57,7 +57,7 @@ all-small a e =
 -- ---- the base
 
 abbrev pub Base-bounded : Base → Type 0
-Base-bounded b = Bounded 3000000 3000000 (b .value)
+Base-bounded b = Bounded offer-limit base-grain (b .value)
 
 bid-bounded : (bid : Option ℤ) → bid-in-range bid ≡ true → made (bid-alone bid) Base-bounded
 bid-bounded None e = tt
@@ -77,9 +77,9 @@ base-bounded a bid range bids =
 -- ---- the candidates
 
 abbrev pub Candidate-bounded : Fraction → Type 0
-Candidate-bounded = Bounded 30000000 150000000000
+Candidate-bounded = Bounded price-limit candidate-grain
 
-pub base-as-candidate : (p : Fraction) → Bounded 3000000 3000000 p → Candidate-bounded p
+pub base-as-candidate : (p : Fraction) → Bounded offer-limit base-grain p → Candidate-bounded p
 base-as-candidate p b = record { proper = b .proper; fine = omega (arith, b .fine); small = omega (arith, b .small) }
 
 pub size-toward : (side : Side) (amount : ℕ) → natAbs (toward side amount) ≡ amount
@@ -93,10 +93,10 @@ index-bounded side index near = record {
   small = omega (arith, ints, size-toward side (margin-quarters index));
 }
 
-pub scaled-numerator : (kwh : ℕ) (p : Fraction) → kwh ≤ 500000 → Bounded 3000000 3000000 p → kwh * natAbs (p .numerator) ≤ 500000 * (3000000 * p .denominator)
-scaled-numerator kwh p few b = mul-le kwh (natAbs (p .numerator)) 500000 (3000000 * p .denominator) few (b .small)
+pub scaled-numerator : (kwh : ℕ) (p : Fraction) → kwh ≤ imbalance-limit → Bounded offer-limit base-grain p → kwh * natAbs (p .numerator) ≤ imbalance-limit * (offer-limit * p .denominator)
+scaled-numerator kwh p few b = mul-le kwh (natAbs (p .numerator)) imbalance-limit (offer-limit * p .denominator) few (b .small)
 
-pub scaled-bounded : (side : Side) (kwh : ℕ) (p : Fraction) → kwh ≤ 500000 → Bounded 3000000 3000000 p → Candidate-bounded (scaled side kwh p)
+pub scaled-bounded : (side : Side) (kwh : ℕ) (p : Fraction) → kwh ≤ imbalance-limit → Bounded offer-limit base-grain p → Candidate-bounded (scaled side kwh p)
 scaled-bounded side kwh p few b = record {
   proper = omega (arith, b .proper);
   fine = omega (arith, b .fine);

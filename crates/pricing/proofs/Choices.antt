@@ -1,10 +1,10 @@
 -- The decisive candidate: it is as bounded as all of them, and none of them goes before it.
-use mathlib.Core.Path.{_≡_, refl}
-use mathlib.Core.Bool.{Bool, true, false, cond}
+use mathlib.Core.Path.{_≡_}
+use mathlib.Core.Bool.{true, false}
 use Prim.Native.Nat.{ℕ, _≤_, _<_}
 use native.Mathlib.Omega.{arith}
 use lib.Dec.{ltb}
-use lib.IntN.{ℤ, pos, natAbs, _*ℤ_}
+use lib.IntN.{ℤ, natAbs}
 use lib.Signed.{leZ, _≤ℤ_}
 use Rattle.std.specs.Slices.{found}
 use Rattle.std.specs.declared.option.Option.{Option}
@@ -19,9 +19,9 @@ use Rattle.pricing.specs.declared.derivation.Side.the-variants.{Surplus, Short
 use Rattle.pricing.specs.declared.derivation.Stage.the-variants.{First, Second, Third}
 use Rattle.pricing.specs.declared.derivation.Candidate.{Candidate}
 use Rattle.pricing.specs.declared.derivation.Candidates.{Candidates}
-use Rattle.pricing.specs.Limits.{offer-limit}
+use Rattle.pricing.specs.Limits.{imbalance-limit, offer-limit, large-imbalance, base-grain}
 use Rattle.pricing.specs.Fractions.{at-most, to-nearest, Bounded}
-use Rattle.pricing.specs.Stages.{beside-index, scaled, scaled-if-large, candidates-of, goes-first, preferred, against-third, decisive}
+use Rattle.pricing.specs.Stages.{scaled, candidates-of, goes-first, preferred, against-third, decisive}
 use Rattle.pricing.proofs.Bounds.{Candidate-bounded, base-as-candidate, index-bounded, scaled-bounded}
 
 -- ---- what holds of both holds of the preferred one
@@ -49,12 +49,12 @@ decisive-bounded side c b =
     third-has side (preferred side (first c) (second c)) (c .scaled) Candidate-bounded
     (preferred-has side (first c) (second c) Candidate-bounded (b .base) (b .index)) (b .third)
 
-pub all-bounded : (side : Side) (kwh : ℕ) (index : ℤ) (base : Base) → kwh ≤ 500000 → natAbs index ≤ offer-limit → Bounded 3000000 3000000 (base .value) → All-bounded (candidates-of side kwh index base)
+pub all-bounded : (side : Side) (kwh : ℕ) (index : ℤ) (base : Base) → kwh ≤ imbalance-limit → natAbs index ≤ offer-limit → Bounded offer-limit base-grain (base .value) → All-bounded (candidates-of side kwh index base)
 all-bounded side kwh index base few near b = record {
   base = base-as-candidate (base .value) b;
   index = index-bounded side index near;
   third =
-      cond-both (ltb 50000 kwh) (Some (scaled side kwh (base .value))) None (λ o. found o Candidate-bounded)
+      cond-both (ltb large-imbalance kwh) (Some (scaled side kwh (base .value))) None (λ o. found o Candidate-bounded)
       (λ e. scaled-bounded side kwh (base .value) few b) (λ e. tt);
 }
 

@@ -1,11 +1,11 @@
 -- Every price is lawful.
 use mathlib.Core.Path.{_≡_, refl, sym, ap, subst, _∙_}
-use mathlib.Core.Bool.{Bool, true, false, cond, _&&_}
+use mathlib.Core.Bool.{true, _&&_}
 use Prim.Native.Nat.{ℕ, zero, suc, _≤_}
 use native.Mathlib.Omega.{arith}
 use lib.Dec.{leb}
 use lib.IntN.{ℤ, pos, negsuc, natAbs}
-use lib.Signed.{_≤ℤ_, _<ℤ_}
+use lib.Signed.{_<ℤ_}
 use Rattle.refusal.specs.declared.reason.Reason.{Reason}
 use Rattle.refusal.specs.declared.reason.Reason.the-variants.{FigureOutOfRange}
 use Rattle.std.specs.Vec.{made}
@@ -19,7 +19,6 @@ use Rattle.rounding.proofs.Distances.{rounding-within}
 use Rattle.pricing.specs.declared.figures.SystemFigures.{SystemFigures}
 use Rattle.pricing.specs.declared.derivation.Base.{Base}
 use Rattle.pricing.specs.declared.derivation.Candidates.{Candidates}
-use Rattle.pricing.specs.declared.derivation.Derivation.{Derivation}
 use Rattle.pricing.specs.declared.derivation.Side.{Side}
 use Rattle.pricing.specs.declared.derivation.Side.the-variants.{Surplus, Shortage}
 use Rattle.pricing.specs.Limits.{imbalance-limit, offer-limit, price-limit, offer-in-range, bid-in-range, activations-in-range, offers-in-range, both-in-range, figures-in-range}

@@ -1,6 +1,6 @@
 -- Within what limits the figures of a quarter of an hour lie.
 use mathlib.Core.Bool.{Bool, true, _&&_}
-use Prim.Native.Nat.{ℕ}
+use Prim.Native.Nat.{ℕ, _*_}
 use lib.Dec.{leb}
 use lib.IntN.{ℤ, natAbs}
 use Rattle.std.specs.declared.option.Option.{Option}
@@ -24,6 +24,21 @@ offer-limit = 3000000
 -- stotinki per MWh, with either sign: any price that the figures can give
 abbrev pub price-limit : ℕ
 price-limit = 30000000
+
+-- the imbalance beyond which the base is scaled, in kWh
+abbrev pub large-imbalance : ℕ
+large-imbalance = 50000
+
+-- the least margin on the index, in stotinki per MWh
+abbrev pub least-margin : ℕ
+least-margin = 1000
+
+-- how fine the fractions are that these limits allow: the largest denominator of a base, and of any candidate
+abbrev pub base-grain : ℕ
+base-grain = 3 * activation-limit
+
+abbrev pub candidate-grain : ℕ
+candidate-grain = large-imbalance * base-grain
 
 abbrev pub offer-in-range : ℤ → Bool
 offer-in-range price = leb (natAbs price) offer-limit

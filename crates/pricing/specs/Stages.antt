@@ -22,6 +22,7 @@ use Rattle.pricing.specs.declared.derivation.Base.{Base}
 use Rattle.pricing.specs.declared.derivation.Candidates.{Candidates}
 use Rattle.pricing.specs.declared.derivation.Stage.the-variants.{First, Second, Third}
 use Rattle.pricing.specs.declared.derivation.Candidate.{Candidate}
+use Rattle.pricing.specs.Limits.{large-imbalance, least-margin}
 use Rattle.pricing.specs.Fractions.{_over_, at-most}
 
 -- ---- the side that the system is on
@@ -68,7 +69,7 @@ base-of activations bid = cond (eqb (activated-kwh activations) 0) (bid-alone bi
 -- ---- second: the index, and on the side's way a margin of a quarter of its size, but at least 1,000
 
 abbrev pub margin-quarters : ℤ → ℕ
-margin-quarters index = max (natAbs index) 4000
+margin-quarters index = max (natAbs index) (4 * least-margin)
 
 abbrev pub beside-index : Side → ℤ → Fraction
 beside-index side index = (pos 4 *ℤ index +ℤ toward side (margin-quarters index)) over 4
@@ -76,10 +77,10 @@ beside-index side index = (pos 4 *ℤ index +ℤ toward side (margin-quarters in
 -- ---- third: only if the imbalance exceeds 50,000 kWh, the base's size times the imbalance over 50,000
 
 abbrev pub scaled : Side → ℕ → Fraction → Fraction
-scaled side kwh base = toward side (kwh * natAbs (base .numerator)) over (50000 * base .denominator)
+scaled side kwh base = toward side (kwh * natAbs (base .numerator)) over (large-imbalance * base .denominator)
 
 abbrev pub scaled-if-large : Side → ℕ → Fraction → Option Fraction
-scaled-if-large side kwh base = cond (ltb 50000 kwh) (Some (scaled side kwh base)) None
+scaled-if-large side kwh base = cond (ltb large-imbalance kwh) (Some (scaled side kwh base)) None
 
 -- ---- fourth: of the candidates the least at a surplus, the greatest at a shortage; of equal ones the earliest
 

@@ -6,7 +6,6 @@ mod price;
 mod stages;
 
 pub use derivation::Base;
-pub use derivation::Candidate;
 pub use derivation::Candidates;
 pub use derivation::Derivation;
 pub use derivation::Origin;

@@ -5,6 +5,7 @@ ghost use lib.IntN.{natAbs};
 ghost use Rattle.std.specs.Vec.{made};
 ghost use Rattle.pricing.specs.Fractions.{Bounded, to-nearest};
 ghost use Rattle.pricing.specs.Laws.{Lawful};
+ghost use Rattle.pricing.specs.Limits.{base-grain, candidate-grain, imbalance-limit, offer-limit, price-limit};
 ghost use Rattle.pricing.specs.Prices.{decided as decided-of, derivation-of, price-of};
 ghost use Rattle.pricing.specs.Stages.{candidates-of};
 use crate::derivation::Base;
@@ -18,16 +19,16 @@ use crate::stages::decisive;
 use refusal::Reason;
 
 fn whole_price(candidate: Fraction) -> i32
-    requires { ⌜ Bounded 30000000 150000000000 candidate ⌝ }
+    requires { ⌜ Bounded price-limit candidate-grain candidate ⌝ }
     ensures { λ r. ⌜ r ≡ to-nearest candidate ⌝ }
 {
     candidate.rounded().unwrap() as i32
 }
 
 fn decided(side: Side, imbalance_kwh: u32, index: i32, base: Base) -> Derivation
-    requires few { ⌜ «imbalance_kwh» ≤ 500000 ⌝ }
-    requires near { ⌜ natAbs index ≤ 3000000 ⌝ }
-    requires bounded { ⌜ Bounded 3000000 3000000 (base .value) ⌝ }
+    requires few { ⌜ «imbalance_kwh» ≤ imbalance-limit ⌝ }
+    requires near { ⌜ natAbs index ≤ offer-limit ⌝ }
+    requires bounded { ⌜ Bounded offer-limit base-grain (base .value) ⌝ }
     ensures { λ r. ⌜ r ≡ decided-of side «imbalance_kwh» (candidates-of side «imbalance_kwh» index base) ⌝ }
 {
     let candidates = candidates(side, imbalance_kwh, index, base);

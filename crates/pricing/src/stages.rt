@@ -3,8 +3,7 @@ ghost use mathlib.Core.Path.{_≡_};
 ghost use mathlib.Core.Bool.{true};
 ghost use Prim.Native.Nat.{_*_, _^_, _≤_, _<_};
 ghost use lib.IntN.{natAbs};
-ghost use Rattle.std.specs.Vec.{made};
-ghost use Rattle.pricing.specs.Limits.{activations-in-range, bid-in-range};
+ghost use Rattle.pricing.specs.Limits.{activations-in-range, base-grain, imbalance-limit, large-imbalance, offer-limit};
 ghost use Rattle.pricing.specs.Fractions.{Bounded};
 ghost use Rattle.pricing.specs.Stages.{side-of, activations-on, bid-on, toward as toward-of, activated-kwh, cost as cost-of, activated-cost, base-of, margin-quarters, beside-index, scaled as scaled-of, scaled-if-large, candidates-of, goes-first, preferred as preferred-of, decisive as decisive-of};
 use crate::derivation::Base;
@@ -163,7 +162,7 @@ fn beside_index(side: Side, index: i32) -> Fraction
 
 fn scaled(side: Side, imbalance_kwh: u32, base: Fraction) -> Fraction
     requires numerator { ⌜ «imbalance_kwh» * natAbs (base .numerator) < 2 ^ 63 ⌝ }
-    requires denominator { ⌜ 50000 * base .denominator < 2 ^ 64 ⌝ }
+    requires denominator { ⌜ large-imbalance * base .denominator < 2 ^ 64 ⌝ }
     ensures { λ r. ⌜ r ≡ scaled-of side «imbalance_kwh» base ⌝ }
 {
     Fraction {
@@ -174,8 +173,8 @@ fn scaled(side: Side, imbalance_kwh: u32, base: Fraction) -> Fraction
 
 // Third: only if the imbalance is large, the base's size in proportion to it.
 fn scaled_if_large(side: Side, imbalance_kwh: u32, base: Fraction) -> Option<Fraction>
-    requires few { ⌜ «imbalance_kwh» ≤ 500000 ⌝ }
-    requires bounded { ⌜ Bounded 3000000 3000000 base ⌝ }
+    requires few { ⌜ «imbalance_kwh» ≤ imbalance-limit ⌝ }
+    requires bounded { ⌜ Bounded offer-limit base-grain base ⌝ }
     ensures { λ r. ⌜ r ≡ scaled-if-large side «imbalance_kwh» base ⌝ }
 {
     if imbalance_kwh > LARGE_IMBALANCE_KWH {
@@ -186,8 +185,8 @@ fn scaled_if_large(side: Side, imbalance_kwh: u32, base: Fraction) -> Option<Fra
 }
 
 pub(crate) fn candidates(side: Side, imbalance_kwh: u32, index: i32, base: Base) -> Candidates
-    requires few { ⌜ «imbalance_kwh» ≤ 500000 ⌝ }
-    requires bounded { ⌜ Bounded 3000000 3000000 (base .value) ⌝ }
+    requires few { ⌜ «imbalance_kwh» ≤ imbalance-limit ⌝ }
+    requires bounded { ⌜ Bounded offer-limit base-grain (base .value) ⌝ }
     ensures { λ r. ⌜ r ≡ candidates-of side «imbalance_kwh» index base ⌝ }
 {
     Candidates {

@@ -2,7 +2,6 @@
 use Prim.Native.Nat.{ℕ, _/_, min}
 use Rattle.std.specs.declared.option.Option.the-variants.{None, Some}
 use Rattle.refusal.specs.declared.layer.Layer.{Layer}
-use Rattle.refusal.specs.declared.layer.Layer.the-variants.{File}
 use Rattle.refusal.specs.declared.reason.Reason.{Reason}
 use Rattle.refusal.specs.declared.reason.Reason.the-variants.{WrongLength, LedgerOutOfRange, BookTooSmall, OutsideLimits, NoSuchMember, NoSuchPeriod, PeriodSettled, PeriodNotSettled, FigureOutOfRange, NoBase, NoPrice, EnergyMissing, NoSuchLine, Sealed, AboveCeiling, Full, UnknownVersion, CutShort, BadRecord, OutputTooShort}
 use Rattle.refusal.specs.declared.refused.Refusal.{Refusal}

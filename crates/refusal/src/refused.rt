@@ -1,7 +1,7 @@
 // A refusal: the reason, the layer that gave it, and whom it concerns.
 ghost use mathlib.Core.Path.{_≡_};
 ghost use Rattle.std.specs.declared.option.Option.the-variants.{Some};
-ghost use Rattle.refusal.specs.Numbers.{concerning, at-cell, naming-nobody, at-place, no-period};
+ghost use Rattle.refusal.specs.Numbers.{concerning, at-cell, naming-nobody, at-place};
 ghost use Rattle.refusal.specs.Text.{member-text, period-text, place-text, refusal-text};
 use crate::layer::Layer;
 use crate::layer::LayerDebug;

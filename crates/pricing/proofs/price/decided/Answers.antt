@@ -2,8 +2,7 @@
 use mathlib.Core.Path.{_≡_, sym, ap, subst, _∙_}
 use mir.Syntax.{w32}
 use Rattle.std.proofs.shelf.Signed.{toZ-ofZ}
-use Rattle.pricing.specs.declared.derivation.Candidates.{Candidates}
-use Rattle.pricing.specs.Stages.{candidates-of, decisive}
+use Rattle.pricing.specs.Stages.{candidates-of}
 use Rattle.pricing.proofs.Bounds.{Candidate-bounded}
 use Rattle.pricing.proofs.Choices.{All-bounded, all-bounded, decisive-bounded}
 use Rattle.pricing.proofs.price.decided.Needs as need

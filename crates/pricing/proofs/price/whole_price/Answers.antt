@@ -1,5 +1,5 @@
 -- A bounded candidate has a rounded value, of at most 32 bits.
-use mathlib.Core.Path.{_≡_, sym, _∙_}
+use mathlib.Core.Path.{_≡_, _∙_}
 use Prim.Native.Nat.{_≤_}
 use native.Mathlib.Omega.{arith}
 use lib.IntN.{ℤ, natAbs}
@@ -8,6 +8,7 @@ use Rattle.std.specs.declared.option.Option.the-variants.{Some}
 use Rattle.std.proofs.shelf.Signed.{ints}
 use Rattle.rounding.proofs.Distances.{rounding-within, rounded-some}
 use Rattle.pricing.specs.Fractions.{to-nearest}
+use Rattle.pricing.specs.Limits.{price-limit}
 use Rattle.pricing.proofs.price.whole_price.Needs as need
 use Rattle.pricing.proofs.price.whole_price.Needs.{After-unwrap}
 
@@ -20,10 +21,10 @@ value c =
     same (c .rounded .result) _ _ (c .unwrap .ensures)
     (c .rounded .ensures ∙ rounded-some (p .numerator) (p .denominator) (c .pre .proper))
 
-small : (c : After-unwrap) → natAbs (c .unwrap .result) ≤ 30000000
+small : (c : After-unwrap) → natAbs (c .unwrap .result) ≤ price-limit
 small c =
     let p = c .args .candidate in
-    rw (value c) (rounding-within (p .numerator) (p .denominator) 30000000 (c .pre .proper) (c .pre .small))
+    rw (value c) (rounding-within (p .numerator) (p .denominator) price-limit (c .pre .proper) (c .pre .small))
 
 pub cast-result : need.cast-result
 cast-result c = omega (arith, ints, small (need.at·cast-result c .After-unwrap))

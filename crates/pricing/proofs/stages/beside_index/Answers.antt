@@ -1,7 +1,7 @@
 -- Four times an index and its margin fit 64 bits.
 use mathlib.Core.Path.{_≡_, ap, _∙_}
 use native.Mathlib.Omega.{arith}
-use lib.IntN.{pos, _+ℤ_, _*ℤ_}
+use lib.IntN.{pos, _*ℤ_}
 use mir.Syntax.{w32, w64}
 use mir.Val.{toZ, ofZ}
 use Rattle.std.proofs.shelf.Signed.{ints, toZ-ofZ}
