@@ -12,6 +12,7 @@ use Rattle.std.specs.declared.option.Option.the-variants.{None, Some}
 use Rattle.std.specs.declared.result.Result.the-variants.{Ok}
 use Rattle.std.proofs.shelf.Bits.{mul-le}
 use Rattle.std.proofs.shelf.Signed.{ints}
+use Rattle.rounding.proofs.Sizes.{size-of-minus, size-of-product}
 use Rattle.std.proofs.shelf.Tests.{and-parts, leb-true, eqb-false, cond-both}
 use Rattle.pricing.specs.declared.figures.Activation.{Activation}
 use Rattle.pricing.specs.declared.figures.Activations.{Activations}
@@ -22,7 +23,6 @@ use Rattle.pricing.specs.declared.derivation.Side.the-variants.{Surplus, Short
 use Rattle.pricing.specs.Limits.{imbalance-limit, activation-limit, offer-limit, price-limit, base-grain, candidate-grain, offer-in-range, bid-in-range, activation-in-range, activations-in-range}
 use Rattle.pricing.specs.Fractions.{Bounded}
 use Rattle.pricing.specs.Stages.{toward, activated-kwh, cost, mean, bid-alone, base-of, margin-quarters, beside-index, scaled}
-use Rattle.pricing.proofs.Products.{size-of-minus, size-of-product}
 
 -- ---- activations
 

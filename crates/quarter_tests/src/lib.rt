@@ -268,6 +268,18 @@ mod tests {
     }
 
     #[test]
+    fn a_group_has_64_members(rt: LibcRuntime) -> Result<(), Fail> {
+        let mut text = String::from_str(rt.alloc(), "imbalance 0\nindex 0\ninternal 0\n")?;
+        for _ in 0..65 {
+            text.push_str("producer 0 0\n")?;
+        }
+        check_eq(
+            said(rt.alloc(), text.as_str())?.as_str(),
+            "line 68: given once too often",
+        )
+    }
+
+    #[test]
     fn blanks_and_comments_are_passed_over(rt: LibcRuntime) -> Result<(), Fail> {
         check_all(
             rt.alloc(),
