@@ -134,7 +134,7 @@ impl Draft {
         }
     }
 
-    pub fn with_line(self, line: &[u8]) -> Result<Draft, Fault>
+    pub(crate) fn with_line(self, line: &[u8]) -> Result<Draft, Fault>
         ensures { λ r. ⌜ r ≡ draft-after-line self (now (line .entry)) ⌝ }
     {
         match read_line(line)? {
@@ -158,7 +158,7 @@ impl Draft {
         })
     }
 
-    pub fn quarter(self) -> Result<Quarter, Problem>
+    pub(crate) fn quarter(self) -> Result<Quarter, Problem>
         ensures { λ r. ⌜ r ≡ quarter-from self ⌝ }
     {
         let figures = self.figures()?;

@@ -128,7 +128,7 @@ fn ignored(word: &[u8]) -> bool
 }
 
 // None where the line is ignored.
-pub fn read_line(line: &[u8]) -> Result<Option<Entry>, Fault>
+pub(crate) fn read_line(line: &[u8]) -> Result<Option<Entry>, Fault>
     ensures { λ r. ⌜ r ≡ entry-of (now (line .entry)) ⌝ }
 {
     let (word, rest) = split_word(line);

@@ -69,7 +69,7 @@ impl GroupDraft {
         members: Members::EMPTY,
     };
 
-    pub fn with(self, entry: GroupEntry) -> Result<GroupDraft, Fault>
+    pub(crate) fn with(self, entry: GroupEntry) -> Result<GroupDraft, Fault>
         ensures { λ r. ⌜ r ≡ group-after self entry ⌝ }
     {
         match entry {
@@ -85,7 +85,7 @@ impl GroupDraft {
     }
 
     // None where no member is listed.
-    pub fn group(self) -> Result<Option<Group>, Problem>
+    pub(crate) fn group(self) -> Result<Option<Group>, Problem>
         ensures { λ r. ⌜ r ≡ group-from self ⌝ }
     {
         if self.members.count == 0 {

@@ -23,7 +23,7 @@ fn is(word: &[u8], name: &str) -> bool
 }
 
 impl Keyword {
-    pub fn named(word: &[u8]) -> Option<Keyword>
+    pub(crate) fn named(word: &[u8]) -> Option<Keyword>
         ensures { λ r. ⌜ r ≡ keyword-of (now (word .entry)) ⌝ }
     {
         if is(word, "imbalance") {

@@ -6,7 +6,7 @@ ghost use Rattle.description.specs.Numbers.{unsigned-number, signed-number};
 
 const MOST_DIGITS: usize = 9;
 
-pub fn unsigned(word: &[u8]) -> Option<u32>
+pub(crate) fn unsigned(word: &[u8]) -> Option<u32>
     ensures value { λ r. ⌜ r ≡ unsigned-number (now (word .entry)) ⌝ }
     ensures small { λ r. ⌜ BySome r (Unit {0}) (λ n. n < 10 ^ 9) ⌝ }
 {
@@ -23,7 +23,7 @@ pub fn unsigned(word: &[u8]) -> Option<u32>
     Some(number)
 }
 
-pub fn signed(word: &[u8]) -> Option<i32>
+pub(crate) fn signed(word: &[u8]) -> Option<i32>
     ensures { λ r. ⌜ r ≡ signed-number (now (word .entry)) ⌝ }
 {
     match word {

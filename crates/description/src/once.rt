@@ -3,7 +3,7 @@ ghost use mathlib.Core.Path.{_≡_};
 ghost use Rattle.description.specs.Group.{given-once};
 use crate::problem::Fault;
 
-pub fn given(before: Option<i32>, number: i32) -> Result<Option<i32>, Fault>
+pub(crate) fn given(before: Option<i32>, number: i32) -> Result<Option<i32>, Fault>
     ensures { λ r. ⌜ r ≡ given-once before number ⌝ }
 {
     match before {

@@ -40,7 +40,7 @@ fn count_front(kind: Kind, bytes: &[u8]) -> usize
 }
 
 // The first line without its end, and what follows that end.
-pub fn split_line(bytes: &[u8]) -> (&[u8], &[u8])
+pub(crate) fn split_line(bytes: &[u8]) -> (&[u8], &[u8])
     ensures line { λ r. ⌜ now (r .0) ≡ take (leading (is-of InLine) (now (bytes .entry))) (now (bytes .entry)) ⌝ }
     ensures rest { λ r. ⌜ now (r .1) ≡ drop (leading (is-of InLine) (now (bytes .entry)) + 1) (now (bytes .entry)) ⌝ }
 {
@@ -52,7 +52,7 @@ pub fn split_line(bytes: &[u8]) -> (&[u8], &[u8])
 }
 
 // The first word, empty where there is none, and what follows it.
-pub fn split_word(bytes: &[u8]) -> (&[u8], &[u8])
+pub(crate) fn split_word(bytes: &[u8]) -> (&[u8], &[u8])
     ensures word { λ r. ⌜ now (r .0) ≡ first-word (now (bytes .entry)) ⌝ }
     ensures rest { λ r. ⌜ now (r .1) ≡ after-word (now (bytes .entry)) ⌝ }
 {
