@@ -1,4 +1,6 @@
 // What a member's quarter of an hour comes to: his imbalance, and what he is paid for it.
+#![tactic(auto)]
+
 mod charge;
 mod imbalance;
 

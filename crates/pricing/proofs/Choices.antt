@@ -19,11 +19,11 @@ use Rattle.pricing.proofs.Bounds.{CandidateBounded, base_as_candidate, index_bou
 -- ---- what holds of both holds of the preferred one
 
 preferred_has : (side : Side) (p q : Candidate) (P : Fraction → Type 0) → P p.value → P q.value → P (preferred side p q).value
-preferred_has side p q P of-p of-q = cond_both (goes_first side p.value q.value) p q (λ c. P c.value) (λ e. of-p) (λ e. of-q)
+preferred_has side p q P of_p of_q = cond_both (goes_first side p.value q.value) p q (λ c. P c.value) (λ e. of_p) (λ e. of_q)
 
 third_has : (side : Side) (p : Candidate) (third : Option Fraction) (P : Fraction → Type 0) → P p.value → IfSome third P → P (against_third side p third).value
-third_has side p None P of-p of-third = of-p
-third_has side p (Some q) P of-p of-third = preferred_has side p (record { stage = Third; value = q }) P of-p of-third
+third_has side p None P of_p of_third = of_p
+third_has side p (Some q) P of_p of_third = preferred_has side p (record { stage = Third; value = q }) P of_p of_third
 
 abbrev first : Candidates → Candidate
 first c = record { stage = First; value = c.base.value }

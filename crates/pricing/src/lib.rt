@@ -1,4 +1,6 @@
 // The price of a quarter of an hour, derived from the published system figures.
+#![tactic(auto)]
+
 mod derivation;
 mod figures;
 mod fraction;

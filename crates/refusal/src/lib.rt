@@ -1,4 +1,6 @@
 // Why a call was refused, by which layer, and whom it concerns.
+#![tactic(auto)]
+
 mod layer;
 mod reason;
 mod refused;

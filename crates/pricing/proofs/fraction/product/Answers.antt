@@ -16,8 +16,8 @@ factor c = omega (arith, ints)
 times : (c : Start) → to_z w128 c.args.times ≡ pos c.args.times
 times c = omega (arith, ints)
 
-pub overflow-mul-result : goal.overflow-mul-result
-overflow-mul-result c = let s = (goal.at.overflow-mul-result c).Start in product_fits w128 _ _ (factor s) (times s) (small s)
+pub overflow_mul-result : goal.overflow_mul-result
+overflow_mul-result c = let s = (goal.at.overflow_mul-result c).Start in product_fits w128 _ _ (factor s) (times s) (small s)
 
 pub returns : goal.returns
 returns c = let s = (goal.at.returns c).Start in product_is w128 _ _ (factor s) (times s) (small s)

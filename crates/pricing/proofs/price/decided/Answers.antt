@@ -6,10 +6,10 @@ use Rattle.pricing.proofs.Bounds.{CandidateBounded}
 use Rattle.pricing.proofs.Choices.{AllBounded, all_bounded, decisive_bounded}
 use Rattle.pricing.proofs.price.decided.Goals as goal
 
-pub whole-price-requires : goal.whole-price-requires
-whole-price-requires c =
+pub whole_price-requires : goal.whole_price-requires
+whole_price-requires c =
     let side = c.args.side in
-    let kwh = c.args.imbalance-kwh in
+    let kwh = c.args.imbalance_kwh in
     let index = c.args.index in
     let base = c.args.base in
     let all : c.candidates-candidates.result ≡ candidates_of side kwh index base =

@@ -13,6 +13,6 @@ returns c =
     let fits : SFits w32 price = search rules in
     let is = to_z-of_z w32 price fits ∙ c.price.ensures in
     record {
-      value = ap Ok is ∙ ap price_if_any c.in-ok-derive.ensures;
-      lawful = subst (Lawful f) (sym is) (subst (λ r. IfOk r (λ d. Lawful f (price_in d))) (sym c.in-ok-derive.ensures) (every_price_lawful f));
+      value = ap Ok is ∙ ap price_if_any c.in_ok-derive.ensures;
+      lawful = subst (Lawful f) (sym is) (subst (λ r. IfOk r (λ d. Lawful f (price_in d))) (sym c.in_ok-derive.ensures) (every_price_lawful f));
     }

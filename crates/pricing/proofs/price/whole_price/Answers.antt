@@ -21,8 +21,8 @@ small c =
     let p = c.args.candidate in
     rw (value c) (rounding_within p.numerator p.denominator price_limit c.requires.proper c.requires.small)
 
-pub overflow-cast-result : goal.overflow-cast-result
-overflow-cast-result c = omega (arith, ints, small (goal.at.overflow-cast-result c).After-unwrap)
+pub overflow_cast-result : goal.overflow_cast-result
+overflow_cast-result c = omega (arith, ints, small (goal.at.overflow_cast-result c).After-unwrap)
 
 pub returns : goal.returns
 returns c = let s = (goal.at.returns c).After-unwrap in omega (arith, ints, small s, value s)

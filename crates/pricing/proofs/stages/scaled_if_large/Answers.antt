@@ -7,6 +7,6 @@ pub scaled-requires : goal.scaled-requires
 scaled-requires c =
     let p = c.args.base in
     record {
-      numerator = omega (arith, scaled_numerator c.args.imbalance-kwh p c.requires.few c.requires.bounded, c.requires.bounded.fine);
+      numerator = omega (arith, scaled_numerator c.args.imbalance_kwh p c.requires.few c.requires.bounded, c.requires.bounded.fine);
       denominator = omega (arith, c.requires.bounded.fine);
     }

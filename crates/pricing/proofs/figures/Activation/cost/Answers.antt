@@ -17,8 +17,8 @@ small c =
     let a = c.args.self.now in
     omega (arith, ints, mul-le (nat_abs a.price) a.kwh (2 ^ 31) (2 ^ 32 - 1) (omega (arith, ints)) (omega arith))
 
-pub overflow-mul-result : goal.overflow-mul-result
-overflow-mul-result c = let s = (goal.at.overflow-mul-result c).After-from-2 in product_fits w64 _ _ (price s) (kwh s) (small s)
+pub overflow_mul-result : goal.overflow_mul-result
+overflow_mul-result c = let s = (goal.at.overflow_mul-result c).After-from-2 in product_fits w64 _ _ (price s) (kwh s) (small s)
 
 pub returns : goal.returns
 returns c = let s = (goal.at.returns c).After-from-2 in product_is w64 _ _ (price s) (kwh s) (small s)
