@@ -5,8 +5,9 @@ use Rattle.sharing.specs.Proportional.{shares_in_proportion, proportional, ByWei
 use Rattle.sharing.specs.Rests.{energies, energy_of_set}
 use Rattle.sharing.specs.Verdict.{verdict}
 use Rattle.sharing.specs.Ways.{Modest}
-use Rattle.sharing.specs.Netted.{netting_nets, netting_nets_all}
-use Rattle.sharing.specs.Proportions.{shares_near, proportion_shared_out}
+use Rattle.sharing.proofs.Netted.{netting_nets, netting_nets_all}
+use Rattle.sharing.specs.Kept.Proportions.{proportion_shared_out}
+use Rattle.sharing.proofs.Proportions.{shares_near}
 
 pub proportional_by_weight : (s : ℕ) (xs : List ℤ) → verdict xs ≡ Ok tt → ByWeight s xs (proportional s xs)
 proportional_by_weight s xs ok =

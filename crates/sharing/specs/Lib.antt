@@ -6,11 +6,4 @@ pub mod Netting
 pub mod Proportional
 pub mod InOrder
 pub mod Layers
-pub mod Orders
-pub mod Amounts
-pub mod Writing
-pub mod Proportions
-pub mod Keeping
-pub mod Accepting
-pub mod Netted
-pub mod Energies
+pub mod Kept

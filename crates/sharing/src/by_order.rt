@@ -1,6 +1,6 @@
 // The rule that nets in member order, each member all he has while the amount lasts.
 ghost use Rattle.sharing.specs.InOrder.{shares_in_order};
-ghost use Rattle.sharing.specs.Orders.{order_shared_out};
+ghost use Rattle.sharing.specs.Kept.Orders.{order_shared_out};
 
 use crate::apportion::Apportion;
 use crate::netting::Netting;

@@ -2,7 +2,7 @@
 ghost use Rattle.std.specs.Prelude.{◌≡◌, OnOk};
 ghost use Rattle.sharing.specs.Proportional.{ByWeight, proportional, shares_in_proportion};
 ghost use Rattle.sharing.specs.Verdict.{verdict, outcome};
-ghost use Rattle.sharing.specs.Proportions.{proportion_shared_out};
+ghost use Rattle.sharing.specs.Kept.Proportions.{proportion_shared_out};
 
 use crate::apportion::{Apportion, total_of};
 use crate::netting::Netting;

@@ -1,7 +1,7 @@
 // Layers over other rules.
 ghost use Rattle.std.specs.Prelude.{bit_and};
 ghost use Rattle.sharing.specs.Layers.{first_then, only_among};
-ghost use Rattle.sharing.specs.Keeping.{lawful_cut, lawful_then, lawful_accepted};
+ghost use Rattle.sharing.specs.Kept.Keeping.{lawful_cut, lawful_then, lawful_accepted};
 
 use crate::rule::SharingRule;
 use refusal::Refusal;

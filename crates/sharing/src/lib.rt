@@ -1,4 +1,6 @@
 // How a balancing group nets its members' surplus against their shortage.
+#![tactic(auto)]
+
 mod apportion;
 mod by_order;
 mod by_proportion;

@@ -2,7 +2,7 @@
 ghost use Rattle.std.specs.Prelude.{◌≡◌, ℕ, ◌<◌, ◌≤◌, length, pos, ◌+ℤ◌, ◌-ℤ◌, Ok, OnOk, slice_index, slice_index_or, unsigned_abs};
 ghost use Rattle.sharing.specs.Netting.{NetsAll, netting, taken_off};
 ghost use Rattle.sharing.specs.Verdict.{verdict, outcome, rest_limit};
-ghost use Rattle.sharing.specs.Netted.{netting_lawful};
+ghost use Rattle.sharing.specs.Kept.Netted.{netting_lawful};
 
 use crate::apportion::{Apportion, total_of};
 use crate::rule::{MOST_MEMBERS, SharingRule, check};

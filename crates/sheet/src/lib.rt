@@ -1,4 +1,6 @@
 // The sheet of a quarter of an hour of a balancing group: who netted what inside, what was left outside, and the money.
+#![tactic(auto)]
+
 mod check;
 mod drawing;
 mod line;

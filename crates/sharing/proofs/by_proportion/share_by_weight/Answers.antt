@@ -2,7 +2,7 @@
 use Rattle.std.proofs.Common.{◌≡◌, rules}
 use Rattle.sharing.specs.Proportional.{ByWeight, proportional}
 use Rattle.sharing.specs.Verdict.{verdict, outcome}
-use Rattle.sharing.specs.Accepting.{made_of_outcome}
+use Rattle.sharing.proofs.Accepting.{made_of_outcome}
 use Rattle.sharing.proofs.Weights.{proportional_by_weight}
 use Rattle.sharing.proofs.by_proportion.share_by_weight.Goals as goal
 

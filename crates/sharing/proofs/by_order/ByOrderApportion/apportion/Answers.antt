@@ -1,8 +1,8 @@
 -- Each turn writes one share more, and at the end all are written.
 use Rattle.std.proofs.Common.{sym, refl, ◌∙◌, arith}
 use Rattle.sharing.specs.InOrder.{shares_in_order}
-use Rattle.sharing.specs.Orders.{order_more}
-use Rattle.sharing.specs.Writing.{write_all}
+use Rattle.sharing.proofs.Orders.{order_more}
+use Rattle.sharing.proofs.Writing.{write_all}
 use Rattle.sharing.proofs.by_order.ByOrderApportion.apportion.Goals as goal
 
 pub loop-x-preserved : goal.loop-x-preserved

@@ -1,7 +1,8 @@
 -- What the first rule leaves is accepted by the second, which works on it.
 use Rattle.std.proofs.Common.{◌≡◌, Ok, ◌∙◌, rules}
 use Rattle.sharing.specs.Verdict.{verdict, outcome}
-use Rattle.sharing.specs.Keeping.{then_after, then_answer, lawful_accepted}
+use Rattle.sharing.specs.Kept.Keeping.{lawful_accepted}
+use Rattle.sharing.proofs.Keeping.{then_after, then_answer}
 use Rattle.sharing.proofs.layers.FirstThenSharingRule.share.Goals as goal
 
 pub returns : goal.returns

@@ -1,7 +1,7 @@
 -- An accepted call nets all that can be netted.
 use Rattle.std.proofs.Common.{◌≡◌, Ok, rules}
 use Rattle.sharing.specs.Verdict.{verdict}
-use Rattle.sharing.specs.Netted.{netting_nets_all}
+use Rattle.sharing.proofs.Netted.{netting_nets_all}
 use Rattle.sharing.proofs.netting.NettingSharingRule.share.Goals as goal
 
 pub returns : goal.returns

@@ -2,7 +2,7 @@
 use Rattle.std.proofs.Common.{◌+◌, get_or, pos, sym, refl, ◌∙◌, arith, w32, SFits, rules}
 use Rattle.std.proofs.lemmas.Int.{to_z-of_z}
 use Rattle.sharing.specs.Rests.{energies_from}
-use Rattle.sharing.specs.Writing.{write_more, write_all}
+use Rattle.sharing.proofs.Writing.{write_more, write_all}
 use Rattle.sharing.proofs.side.Side.list.Goals as goal
 
 pub loop-i-preserved : goal.loop-i-preserved

@@ -1,10 +1,9 @@
--- Shares in member order: they are shared out as they should be, and the loop writes them.
-use Rattle.std.specs.Prelude.{◌≡◌, ℕ, zero, suc, ◌+◌, ◌-◌, ◌<◌, ◌≤◌, min, List, [], ◌∷◌, ◌++◌, length, take, drop, sum, slice_index, slice_set, refl}
+-- Shares in member order are shared out as they should be.
+use Rattle.std.specs.Prelude.{◌≡◌, ℕ, zero, suc, ◌-◌, ◌≤◌, min, List, [], ◌∷◌, length, sum, slice_index, refl}
 use Rattle.std.proofs.Common.{ap, arith}
 use Rattle.sharing.specs.InOrder.{shares_in_order}
 use Rattle.sharing.specs.Ways.{SharedOut}
-use Rattle.sharing.specs.Amounts.{sum_cons}
-use Rattle.sharing.specs.Writing.{rewrite_more}
+use Rattle.sharing.specs.Kept.Amounts.{sum_cons}
 
 order_length : (n : ℕ) (xs : List ℕ) → length (shares_in_order n xs) ≡ length xs
 order_length n [] = refl
@@ -26,11 +25,3 @@ order_shared_out n xs h = record {
   within_own = order_within n xs;
   whole = omega (arith, order_sum n xs);
 }
-
--- one turn of the loop
-pub order_more : (ys : List ℕ) (n i v : ℕ) → i < length ys → v ≡ min n (slice_index ys i)
-    → take (i + 1) (slice_set ys i v) ++ shares_in_order (n - v) (drop (i + 1) (slice_set ys i v)) ≡ take i ys ++ shares_in_order n (drop i ys)
-order_more ys n i v h is =
-    let a : min (slice_index ys i) n ≡ v = omega arith in
-    let b : n - slice_index ys i ≡ n - v = omega arith in
-    rewrite_more (shares_in_order n) (shares_in_order (n - v)) ys i 0 v h (rw (a, b))

@@ -1,12 +1,9 @@
--- Sums of energies, and that those of modest ones are small.
-use Rattle.std.specs.Prelude.{◌≡◌, ℕ, suc, ◌+◌, ◌*◌, ◌≤◌, List, [], ◌∷◌, length, sum, slice_index}
+-- Sums of modest energies are small.
+use Rattle.std.specs.Prelude.{ℕ, suc, ◌*◌, ◌≤◌, List, [], ◌∷◌, length, sum, slice_index}
 use Rattle.std.proofs.Common.{arith, mul-le-mul_right}
-use Rattle.std.proofs.lemmas.List.Sums.{sum_by-cons}
 use Rattle.sharing.specs.Verdict.{rest_limit}
 use Rattle.sharing.specs.Ways.{Modest}
-
-pub sum_cons : (x : ℕ) (xs : List ℕ) → sum (x ∷ xs) ≡ x + sum xs
-sum_cons x xs = sum_by-cons (λ y. y) x xs
+use Rattle.sharing.specs.Kept.Amounts.{sum_cons}
 
 sum_le : (m : ℕ) (xs : List ℕ) → ((i : ℕ) → slice_index xs i ≤ m) → sum xs ≤ length xs * m
 sum_le m [] h = omega arith

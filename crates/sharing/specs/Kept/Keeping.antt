@@ -6,8 +6,8 @@ use Rattle.std.proofs.lemmas.Int.{ints}
 use Rattle.std.proofs.lemmas.Bool.{eqb-false}
 use Rattle.sharing.specs.Law.{FromZeroTo, Lawful}
 use Rattle.sharing.specs.Rests.{in_set}
-use Rattle.sharing.specs.Verdict.{verdict, outcome}
-use Rattle.sharing.specs.Accepting.{accepts, accepted_parts, in_range_at, in_range_from}
+use Rattle.sharing.specs.Verdict.{verdict}
+use Rattle.sharing.specs.Kept.Accepting.{accepts, accepted_parts, in_range_at, in_range_from}
 
 toward_trans : (x y z : ℤ) → FromZeroTo x y → FromZeroTo y z → FromZeroTo x z
 toward_trans x y z (inl a) (inl b) = inl (omega (arith, ints))
@@ -54,11 +54,3 @@ lawful_accepted s xs ys p ok =
     let l = p.same_length in
     accepts ys (omega arith)
     (in_range_from ys (λ i h. let k : i < length xs = omega arith in omega (arith, toward_abs _ _ (p.toward_zero i k), in_range_at xs i k a.1)))
-
--- two rules, one after the other
-module _ (f g : List ℤ → List ℤ) (xs ys zs : List ℤ) (first : ys ≡ outcome f xs) (second : zs ≡ outcome g ys) (ok : verdict xs ≡ Ok tt) (ok' : verdict (f xs) ≡ Ok tt) where
-  pub then_after : zs ≡ outcome (λ vs. g (f vs)) xs
-  then_after = cc
-
-  pub then_answer : verdict ys ≡ verdict xs
-  then_answer = cc
