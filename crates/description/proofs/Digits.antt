@@ -11,7 +11,7 @@ use Rattle.description.specs.Numbers.{is_digit, digits_after, unsigned_number, s
 -- the next byte of a number
 module _ (before : ℕ) (word : List ℕ) (i : ℕ) (more : i < length word) where
   pub digits_step : is_digit (get_or word i 0) ≡ true → digits_after before (drop i word) ≡ digits_after (before * 10 + (get_or word i 0 - 48)) (drop (i + 1) word)
-  digits_step yes-digit = at_drop_more (digits_after before) word i 0 more ∙ cond-true (is_digit (get_or word i 0)) _ _ yes-digit
+  digits_step yes_digit = at_drop_more (digits_after before) word i 0 more ∙ cond-true (is_digit (get_or word i 0)) _ _ yes_digit
 
   pub digits_stop : is_digit (get_or word i 0) ≡ false → digits_after before (drop i word) ≡ None
   digits_stop no_digit = at_drop_more (digits_after before) word i 0 more ∙ cond-false (is_digit (get_or word i 0)) _ _ no_digit

@@ -25,7 +25,7 @@ and_then (Err e) next = Err e
 abbrev pub is_empty : List ℕ → Bool
 is_empty bytes = length bytes == 0
 
--- the keyword that a word is; `codes` are the bytes of a text, and `sameBytes` says whether two lists are the same
+-- the keyword that a word is; `codes` are the bytes of a text, and `bytes_eq` says whether two lists are the same
 abbrev pub keyword_of : List ℕ → Option Keyword
 keyword_of word =
     cond (bytes_eq word (codes "imbalance")) (Some Imbalance)

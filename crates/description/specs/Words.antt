@@ -28,7 +28,7 @@ abbrev pub lines_of : List ℕ → List (List ℕ)
 lines_of [] = []
 lines_of (byte ∷ more) = cond (ends_line byte) ([] ∷ lines_of more) (prepended byte (lines_of more))
 
--- what is left once the blanks at the front are gone; `leading` counts the bytes before the first that fails its test
+-- what is left once the blanks at the front are gone; `prefix_len` counts the bytes before the first that fails its test
 abbrev pub trimmed : List ℕ → List ℕ
 trimmed bytes = drop (prefix_len (is_of Blank) bytes) bytes
 

@@ -1,4 +1,6 @@
 // The description of a quarter of an hour as text, read into system figures.
+#![tactic(auto)]
+
 mod draft;
 mod entry;
 mod group;

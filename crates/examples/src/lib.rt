@@ -1,4 +1,6 @@
 // The worked examples, as rows of one table that follows from the definitions.
+#![tactic(auto)]
+
 ghost use Rattle.std.specs.Prelude.{◌≡◌, length};
 ghost use Rattle.examples.specs.Table.{table, HoldsThroughout};
 

@@ -1,5 +1,7 @@
 // A quarter of an hour explained: from the text that describes it to the text that says how its price came about, and what
 // the members of the group net and are paid.
+#![tactic(auto)]
+
 mod failure;
 mod group;
 mod report;

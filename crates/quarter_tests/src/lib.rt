@@ -1,4 +1,6 @@
 // What the program quarter says of examples, from its input text to its output text.
+#![tactic(auto)]
+
 #[cfg(test)]
 mod tests {
     use explanation::explain;

@@ -8,6 +8,6 @@ use Rattle.description.proofs.keyword.is.Goals as goal
 pub returns : goal.returns
 returns c =
     let word : List ℕ = c.args.word.now in
-    let name : List ℕ = c.as-bytes.result.now in
+    let name : List ℕ = c.as_bytes.result.now in
     same_from_decides c.eq.result (bytes_eq word name) (slice_eq-Decides Decides-eqb word name c.eq.result c.eq.ensures) (bytes_eq-Decides word name)
-    ∙ ap (bytes_eq word) c.as-bytes.ensures.value
+    ∙ ap (bytes_eq word) c.as_bytes.ensures.value

@@ -5,19 +5,19 @@ use Rattle.std.specs.Option.{option_map}
 use Rattle.description.proofs.Digits.{after_minus}
 use Rattle.description.proofs.numbers.signed.Goals as goal
 
-pub returns-in-err-unsigned : goal.returns-in-err-unsigned
-returns-in-err-unsigned c =
+pub returns-in_err-unsigned-in-45 : goal.returns-in_err-unsigned-in-45
+returns-in_err-unsigned-in-45 c =
     let word : List ℕ = c.args.word.now in
     let some : 0 < length word = search rules in
     let minus : get_or word 0 0 ≡ 45 = search rules in
-    c.from-residual.ensures ∙ ap (option_map (λ n. neg_ℤ (pos n))) c.in-err-unsigned.ensures.value ∙ sym (after_minus word some minus)
+    c.from_residual.ensures ∙ ap (option_map (λ n. neg_ℤ (pos n))) c.in_err-unsigned-in-45.ensures.value ∙ sym (after_minus word some minus)
 
-pub returns-in-ok-unsigned : goal.returns-in-ok-unsigned
-returns-in-ok-unsigned c =
+pub returns-in_ok-unsigned-in-45 : goal.returns-in_ok-unsigned-in-45
+returns-in_ok-unsigned-in-45 c =
     let word : List ℕ = c.args.word.now in
     let some : 0 < length word = search rules in
     let minus : get_or word 0 0 ≡ 45 = search rules in
-    let n : ℕ = c.in-ok-unsigned.field-0 in
-    let small : n < 1000000000 = c.in-ok-unsigned.ensures.small in
+    let n : ℕ = c.in_ok-unsigned-in-45.field-0 in
+    let small : n < 1000000000 = c.in_ok-unsigned-in-45.ensures.small in
     let back : to_z w32 (of_z w32 (pos 0 -ℤ to_z w32 n)) ≡ neg_ℤ (pos n) = omega (arith, ints) in
-    ap Some back ∙ ap (option_map (λ n. neg_ℤ (pos n))) c.in-ok-unsigned.ensures.value ∙ sym (after_minus word some minus)
+    ap Some back ∙ ap (option_map (λ n. neg_ℤ (pos n))) c.in_ok-unsigned-in-45.ensures.value ∙ sym (after_minus word some minus)

@@ -10,7 +10,7 @@ pub returns-in-Err : goal.returns-in-Err
 returns-in-Err c =
     let rest : List ℕ = c.loop-rest.rest.now in
     let some : 0 < length rest = search rules in
-    sym (at_fault (c.loop-rest.lines-read + 1) c.loop-rest.draft rest c.split_line.result.0.now c.split_line.result.1.now some c.split_line.ensures.line c.split_line.ensures.rest c.in-Err.fault c.in-Err.ensures)
+    sym (at_fault (c.loop-rest.lines_read + 1) c.loop-rest.draft rest c.split_line.result.0.now c.split_line.result.1.now some c.split_line.ensures.line c.split_line.ensures.rest c.in-Err.fault c.in-Err.ensures)
     ∙ c.loop-rest.invariant.1
 
 pub loop-rest-smaller : goal.loop-rest-smaller
@@ -24,7 +24,7 @@ loop-rest-preserved c =
     let rest : List ℕ = c.loop-rest.rest.now in
     let some : 0 < length rest = search rules in (
       omega (arith, c.loop-rest.invariant.0, ap length c.split_line.ensures.rest, length-drop (line_length rest + 1) rest),
-      sym (past_line (c.loop-rest.lines-read + 1) c.loop-rest.draft rest c.split_line.result.0.now c.split_line.result.1.now some c.split_line.ensures.line c.split_line.ensures.rest c.in-Ok.next c.in-Ok.ensures)
+      sym (past_line (c.loop-rest.lines_read + 1) c.loop-rest.draft rest c.split_line.result.0.now c.split_line.result.1.now some c.split_line.ensures.line c.split_line.ensures.rest c.in-Ok.next c.in-Ok.ensures)
           ∙ c.loop-rest.invariant.1,
     )
 
@@ -32,4 +32,4 @@ pub returns : goal.returns
 returns c =
     let rest : List ℕ = c.loop-rest.rest.now in
     let none : length rest ≡ 0 = search rules in
-    c.quarter.ensures ∙ ap (λ (xs : List ℕ). quarter_after (c.loop-rest.lines-read + 1) c.loop-rest.draft (lines_of xs)) (sym (nil_from_length rest none)) ∙ c.loop-rest.invariant.1
+    c.quarter.ensures ∙ ap (λ (xs : List ℕ). quarter_after (c.loop-rest.lines_read + 1) c.loop-rest.draft (lines_of xs)) (sym (nil_from_length rest none)) ∙ c.loop-rest.invariant.1

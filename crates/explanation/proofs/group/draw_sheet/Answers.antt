@@ -14,8 +14,8 @@ few c =
     let members = c.args.group.now.members in
     omega (arith, ap length c.positions-positions.ensures, length-take (min members.count most_members) members.positions)
 
-pub slice-bounds-lines-end : goal.slice-bounds-lines-end
-slice-bounds-lines-end c = let h = few (goal.at.slice-bounds-lines-end c).After-positions-positions in omega (arith, h)
+pub slice_bounds-lines-end : goal.slice_bounds-lines-end
+slice_bounds-lines-end c = let h = few (goal.at.slice_bounds-lines-end c).After-positions-positions in omega (arith, h)
 
 -- the lines that are drawn are those in front
 front : (new room : List SheetLine) (n : ℕ) → length new ≡ n → n ≤ most_members → take (min n most_members) (new ++ room) ≡ new
@@ -33,5 +33,5 @@ returns c =
       value = search rules;
       adds_up =
           subst (AddsUp c.args.price) (sym drawn)
-          (subst (λ (price : ℤ). AddsUp price new) (to_z-of_z w32 c.args.price c.ranges.price) c.in-ok-draw.ensures.adds_up);
+          (subst (λ (price : ℤ). AddsUp price new) (to_z-of_z w32 c.args.price c.ranges.price) c.in_ok-draw.ensures.adds_up);
     }

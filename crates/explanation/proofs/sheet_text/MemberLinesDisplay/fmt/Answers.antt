@@ -16,7 +16,7 @@ loop-number-preserved g c = λ plain.
     let before = c.loop-number.invariant plain in
     let more = lines_more c.args.self.now.0.now c.loop-number.number blank c.loop-number-test.true in
     has_written_of_eq took c.args.f.now _ _ _ (sym more)
-    (has_written_append took c.args.f.now _ _ _ _ before (c.in-ok-write.ensures.shows before.plain refl))
+    (has_written_append took c.args.f.now _ _ _ _ before (c.in_ok-write.ensures.writes before.plain refl))
 
 pub returns-clause-writes : goal.returns-clause-writes
 returns-clause-writes g c = λ plain e.
