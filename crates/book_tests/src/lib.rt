@@ -1,4 +1,6 @@
 // Energy books, their layers and the member directory on examples.
+#![tactic(auto)]
+
 #[cfg(test)]
 mod tests {
     use books::{Cell, ListedBook, TableBook};

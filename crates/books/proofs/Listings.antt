@@ -1,20 +1,18 @@
 -- What an entry to the list of a listed book does to the book.
-use Rattle.std.proofs.Common.{◌≡◌, ℕ, ◌-◌, ◌<◌, ◌≤◌, min, Bool, true, false, cond, not, ◌&&◌, eqb, ltb, is_some, is_ok, Some, None, Ok, Err, Option, Result, sym, refl, ap, ◌∙◌, ap₂, ⊎_elim, arith}
+use Rattle.std.proofs.Common.{◌≡◌, ℕ, ◌-◌, ◌<◌, ◌≤◌, true, cond, not, ◌&&◌, eqb, ltb, is_some, Some, None, Ok, Err, Option, sym, refl, ap, ◌∙◌, ap₂, ⊎_elim, arith}
 use mathlib.Core.Path.{fun_ext}
 use Rattle.std.proofs.lemmas.Bool.{cond-true, cond-false, and_from, lt-ltb, cases_Bool}
 use Rattle.std.proofs.lemmas.Bool.Decides.{nat_tests}
 use Rattle.charging.specs.Limits.{energy_limit}
 use Rattle.refusal.specs.declared.layer.Layer.TheVariants.{Book}
 use Rattle.refusal.specs.declared.reason.Reason.TheVariants.{Full}
-use Rattle.refusal.specs.declared.refused.Refusal.{Refusal}
 use Rattle.refusal.specs.Numbers.{at_cell}
-use Rattle.keyed.specs.Contents.{Contents, lacks_room, entered, put_verdict, put_outcome, fits_list}
+use Rattle.keyed.specs.Contents.{Contents, lacks_room, entered, put_verdict, put_outcome}
 use Rattle.books.specs.declared.cell.Cell.{Cell}
-use Rattle.energy.specs.Limits.{within_limits}
-use Rattle.energy.specs.Meaning.{Meaning, book_verdict, book_outcome, with_cell}
+use Rattle.energy.specs.Meaning.{book_verdict, book_outcome, with_cell}
 use Rattle.books.specs.Plain.{plain, no_book}
 use Rattle.books.specs.Cells.{same_cell}
-use Rattle.books.specs.Listed.{cut, listed_cell, listed_in, listed, listed_check, fits_listed}
+use Rattle.books.specs.Listed.{cut, listed_cell, listed_in, listed, fits_listed}
 use Rattle.books.proofs.Postings.{plain_verdict, plain_posted, plain_full}
 
 some_cut : (o : Option ℕ) → is_some (cut o) ≡ is_some o

@@ -1,10 +1,10 @@
 -- What a posting does to a book, from the answer to it.
-use Rattle.std.proofs.Common.{◌≡◌, ℕ, ◌-◌, ◌<◌, ◌≤◌, Bool, true, false, cond, not, ◌&&◌, eqb, ltb, leb, is_some, is_ok, Ok, Err, Option, Result, sym, refl, ap, ◌∙◌, arith}
+use Rattle.std.proofs.Common.{◌≡◌, ℕ, ◌-◌, ◌<◌, ◌≤◌, Bool, true, false, cond, not, ◌&&◌, eqb, ltb, leb, is_some, is_ok, Ok, Err, Option, sym, ap, ◌∙◌, arith}
 use Rattle.std.proofs.lemmas.Bool.{cond-true, cond-false, lt-leb, le-ltb}
 use Rattle.std.proofs.lemmas.Bool.Decides.{nat_tests}
 use Rattle.charging.specs.Limits.{energy_limit}
 use Rattle.refusal.specs.declared.layer.Layer.TheVariants.{Book}
-use Rattle.refusal.specs.declared.reason.Reason.TheVariants.{NoSuchPeriod, NoSuchLine, AboveCeiling, Full}
+use Rattle.refusal.specs.declared.reason.Reason.TheVariants.{Full}
 use Rattle.refusal.specs.declared.refused.Refusal.{Refusal}
 use Rattle.refusal.specs.Numbers.{at_cell}
 use Rattle.energy.specs.Meaning.{Meaning, book_verdict, book_outcome, posted, with_cell}

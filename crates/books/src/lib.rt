@@ -1,4 +1,6 @@
 // Energy books in memory that is handed over: a table of all cells, and a list of the filled ones.
+#![tactic(auto)]
+
 mod cell;
 mod listed;
 mod plain;

@@ -1,4 +1,6 @@
 // The member directory: which member a contract number belongs to, in memory that is handed over.
+#![tactic(auto)]
+
 ghost use Rattle.std.specs.Prelude.{◌≡◌, false, length, is_ok, nat_eq};
 ghost use Rattle.keyed.specs.Contents.{new_list};
 ghost use Rattle.keyed.specs.Memory.{held};

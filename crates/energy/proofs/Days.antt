@@ -1,8 +1,8 @@
 -- A day that is added to a set of days is then in it, and no other is that was not.
-use Rattle.std.proofs.Common.{◌≡◌, ℕ, zero, suc, ◌+◌, ◌-◌, ◌*◌, ◌/◌, ◌%◌, ◌^◌, ◌<◌, ◌≤◌, Bool, true, false, ◌||◌, eqb, sym, refl, ap, ◌∙◌, ⊎_elim, pow-suc, arith}
+use Rattle.std.proofs.Common.{◌≡◌, ℕ, zero, suc, ◌+◌, ◌-◌, ◌/◌, ◌%◌, ◌^◌, ◌<◌, ◌||◌, eqb, sym, refl, ap, ◌∙◌, ⊎_elim, pow-suc, arith}
 use native.Mathlib.Nat.{div-eq_of_lt, div_self, mul-mod_left}
 use lib.Bits.{bit_or}
-use Rattle.std.proofs.lemmas.Nat.{or_shr, or_mod, pow-add, pow_pos, shl-shr, pow_below, mod_below, one_shl}
+use Rattle.std.proofs.lemmas.Nat.{or_shr, or_mod, pow-add, pow_pos, shl-shr, pow_below, mod_below}
 use Rattle.std.proofs.lemmas.Bool.{cases_order, eq-eqb, ne_eqb}
 use Rattle.energy.specs.Layers.{day_in, with_day}
 

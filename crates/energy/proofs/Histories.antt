@@ -4,7 +4,7 @@ use Rattle.std.proofs.lemmas.List.{at_drop_more}
 use Rattle.std.proofs.lemmas.Bool.{cond-true, cond-false, eq-eqb, and_from}
 use Rattle.refusal.specs.declared.refused.Refusal.{Refusal}
 use Rattle.energy.specs.declared.bookings.Booking.{Booking}
-use Rattle.energy.specs.Meaning.{Meaning, book_outcome, posted, with_cell}
+use Rattle.energy.specs.Meaning.{Meaning, posted, with_cell}
 use Rattle.energy.specs.Bookings.{verdict_on, after_one, after_all, accepted, answers, is_at, Elsewhere, KeepsTheLast, Alike}
 
 -- a posting that is accepted, and one that is refused

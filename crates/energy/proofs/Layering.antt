@@ -1,5 +1,5 @@
 -- A posting that a layer lets through does to the book under the layer what it does to the book below.
-use Rattle.std.proofs.Common.{◌≡◌, ℕ, Bool, true, false, cond, List, is_ok, sym, refl, ap, ◌∙◌, arith}
+use Rattle.std.proofs.Common.{◌≡◌, ℕ, Bool, true, false, cond, List, is_ok, refl, ap, ◌∙◌, arith}
 use Rattle.std.proofs.lemmas.Bool.Decides.{nat_tests}
 use Rattle.energy.specs.Meaning.{Meaning, book_verdict, book_outcome, posted}
 use Rattle.energy.specs.Layers.{under_ceilings, over_own, under_seals, sealed_own}

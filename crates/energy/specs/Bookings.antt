@@ -1,6 +1,6 @@
 -- Lists of postings to a book, and what the book holds after them.
 use Rattle.std.specs.Prelude.{◌≡◌, ℕ, Bool, false, cond, ◌&&◌, List, [], ◌∷◌, ◌++◌, is_ok, Some, Result, ◌==◌}
-use Rattle.std.specs.List.{AllByRecursion as All}
+use Rattle.std.specs.List.{AllByRecursion}
 use Rattle.refusal.specs.declared.refused.Refusal.{Refusal}
 use Rattle.energy.specs.declared.bookings.Booking.{Booking}
 use Rattle.energy.specs.Meaning.{Meaning, book_verdict, book_outcome}
@@ -30,7 +30,7 @@ is_at line period b = line == b.line && period == b.period
 
 -- no posting of the list is of that cell
 abbrev pub Elsewhere : ℕ → ℕ → List Booking → Type 0
-Elsewhere line period bookings = All (λ b. is_at line period b ≡ false) bookings
+Elsewhere line period bookings = AllByRecursion (λ b. is_at line period b ≡ false) bookings
 
 -- The last accepted posting of a cell is what a reading of it gives, however many came before and whatever was posted elsewhere.
 pub record KeepsTheLast (before : Meaning) (posted : List Booking) (after : Meaning) : Type 0 where

@@ -13,12 +13,13 @@ pub struct Booking {
 
 // Posts a list in its order and counts what was accepted.
 fn post_each<B: Book>(book: &mut B, bookings: &[Booking]) -> usize
-    ensures count { result ≡ length (accepted (meaning book.old) bookings.now) }
-    ensures after { meaning book.new ≡ after_all (meaning book.old) bookings.now }
+    ensures count { result ≡ length (accepted (B.Book.meaning book.old) bookings.now) }
+    ensures after { B.Book.meaning book.new ≡ after_all (B.Book.meaning book.old) bookings.now }
 {
     let mut count = 0;
     for booking in bookings {
-        if book.post(booking.line, booking.period, booking.kwh).is_ok() {
+        let accepted = book.post(booking.line, booking.period, booking.kwh).is_ok();
+        if accepted {
             count += 1;
         }
     }
@@ -27,9 +28,9 @@ fn post_each<B: Book>(book: &mut B, bookings: &[Booking]) -> usize
 
 // Posts a list in its order, whatever is refused of it, and gives how many were accepted.
 pub fn post_all<B: Book>(book: &mut B, bookings: &[Booking]) -> usize
-    ensures count { result ≡ length (accepted (meaning book.old) bookings.now) }
-    ensures after { meaning book.new ≡ after_all (meaning book.old) bookings.now }
-    ensures last { KeepsTheLast (meaning book.old) (accepted (meaning book.old) bookings.now) (meaning book.new) }
+    ensures count { result ≡ length (accepted (B.Book.meaning book.old) bookings.now) }
+    ensures after { B.Book.meaning book.new ≡ after_all (B.Book.meaning book.old) bookings.now }
+    ensures last { KeepsTheLast (B.Book.meaning book.old) (accepted (B.Book.meaning book.old) bookings.now) (B.Book.meaning book.new) }
 {
     post_each(book, bookings)
 }

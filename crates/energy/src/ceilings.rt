@@ -53,7 +53,7 @@ impl<B: Book> Ceilings<B> {
 
     // Whether only this layer's own ceiling is in the way of a posting.
     fn over_own(&self, line: usize, period: usize, kwh: u32) -> bool
-        ensures { result ≡ over_own self.now.own (meaning self.now.below) line period kwh }
+        ensures { result ≡ over_own self.now.own (B.Book.meaning self.now.below) line period kwh }
     {
         match (self.below.sealed(line, period), self.below.ceiling(line)) {
             (Some(false), Some(most)) => kwh <= most && kwh > self.own[line],

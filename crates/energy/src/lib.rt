@@ -1,4 +1,6 @@
 // Energy books: what every book of schedules and readings means, its laws, and the layers over any book.
+#![tactic(auto)]
+
 mod book;
 mod bookings;
 mod ceilings;

@@ -63,7 +63,7 @@ impl<B: Book> Seals<B> {
 
     // Whether only this layer's own seal is in the way of a posting.
     fn sealed_own(&self, line: usize, period: usize) -> bool
-        ensures { result ≡ sealed_own self.now.days (meaning self.now.below) line period }
+        ensures { result ≡ sealed_own self.now.days (B.Book.meaning self.now.below) line period }
     {
         match self.below.sealed(line, period) {
             Some(false) => covers(self.days, period),

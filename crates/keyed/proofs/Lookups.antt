@@ -1,13 +1,13 @@
 -- What a list holds after a write to its memory.
-use Rattle.std.proofs.Common.{◌≡◌, ℕ, ◌+◌, ◌-◌, ◌%◌, ◌<◌, ◌≤◌, Bool, true, false, cond, List, map, length, get_or, set, is_some, IfSome, Some, None, Option, unwrap_or, sym, refl, ap, ◌∙◌, ap₂, ⊎_elim, arith}
+use Rattle.std.proofs.Common.{◌≡◌, ℕ, ◌+◌, ◌-◌, ◌%◌, ◌<◌, ◌≤◌, Bool, true, false, cond, List, map, length, get_or, set, is_some, IfSome, Some, None, Option, unwrap_or, sym, refl, ap, ◌∙◌, ⊎_elim, arith}
 use mathlib.Core.Path.{fun_ext}
 use Rattle.std.specs.List.{slice_get}
 use Rattle.std.proofs.lemmas.List.{map-set, length-set, length-map, get_or-set_same, get_or-set_other}
 use Rattle.std.proofs.lemmas.Option.{slice_get-get_or}
-use Rattle.std.proofs.lemmas.Bool.{cases_eq, cond-true, cond-false, true≢false}
+use Rattle.std.proofs.lemmas.Bool.{cases_eq, cond-true, cond-false}
 use Rattle.keyed.specs.declared.entry.Entry.{Entry}
 use Rattle.keyed.specs.Keys.{Exact}
-use Rattle.keyed.specs.Contents.{Contents, entered}
+use Rattle.keyed.specs.Contents.{entered}
 use Rattle.keyed.specs.Memory.{is_of, start_at, older_at, newest_at, newest_from, beginning, chained_from, found_from, place_of, content_at, held_in, with_newest}
 use Rattle.keyed.proofs.Chains.{never, chained_at}
 use Rattle.keyed.proofs.Fields.{field, field_kept, nth_set_same, nth_set_other}
@@ -51,9 +51,9 @@ module _ {K X : Type 0} (same : K → K → Bool) (spread : K → ℕ) (es : Lis
 module _ {K X : Type 0} (same : K → K → Bool) (exact : Exact same) (spread : K → ℕ) (es : List (Entry K X)) (used : ℕ) (d : Entry K X) where
   -- one entry is of one key
   one_key : (q k : K) (p : ℕ) → p < length es → is_of es same q p ≡ true → is_of es same k p ≡ true → same q k ≡ true
-  one_key q k p within of-q of-k =
-      let q_is = (exact q (get_or es p d).key).0 (field (λ e. same q e.key) es p d false within ∙ of-q) in
-      let k_is = (exact k (get_or es p d).key).0 (field (λ e. same k e.key) es p d false within ∙ of-k) in
+  one_key q k p within of_q of_k =
+      let q_is = (exact q (get_or es p d).key).0 (field (λ e. same q e.key) es p d false within ∙ of_q) in
+      let k_is = (exact k (get_or es p d).key).0 (field (λ e. same k e.key) es p d false within ∙ of_k) in
       (exact q k).1 (q_is ∙ sym k_is)
 
   module _ (filled : used ≤ length es) (k : K) (x : X) where
@@ -123,15 +123,15 @@ module _ {K X : Type 0} (same : K → K → Bool) (exact : Exact same) (spread :
       long : length es₂ ≡ length es
       long = ap length linked ∙ length-set es₁ b (with_newest (get_or es₁ b d) used) ∙ ap length written ∙ length-set es used _
 
-      b-within₁ : b < length es₁
-      b-within₁ = let e = ap length written ∙ length-set es used _ in omega arith
+      b_within₁ : b < length es₁
+      b_within₁ = let e = ap length written ∙ length-set es used _ in omega arith
 
       -- every part but the links to the newest is written at the new place alone
       part_written : {Y : Type 0} (f : Entry K X → Y) → ((e : Entry K X) (n : ℕ) → f (with_newest e n) ≡ f e) → map f es₂ ≡ set (map f es) used (f new_entry)
       unfolding new_entry
       part_written f kept =
           ap (map f) linked
-          ∙ field_kept f es₁ b (with_newest (get_or es₁ b d) used) d b-within₁ (kept (get_or es₁ b d) used)
+          ∙ field_kept f es₁ b (with_newest (get_or es₁ b d) used) d b_within₁ (kept (get_or es₁ b d) used)
           ∙ ap (map f) written
           ∙ map-set f es used new_entry
 

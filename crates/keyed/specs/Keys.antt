@@ -1,5 +1,5 @@
 -- When two keys are one.
-use Rattle.std.specs.Prelude.{◌≡◌, ℕ, Bool, Decides, nat_eq}
+use Rattle.std.specs.Prelude.{◌≡◌, Bool, Decides, nat_eq}
 use Rattle.std.proofs.lemmas.Bool.{eqb-true, eq-eqb}
 
 -- a test that tells of any two keys whether they are one

@@ -65,6 +65,6 @@ module _ {K X : Type 0} (same : K → K → Bool) (spread : K → ℕ) (key : K)
   abbrev pub Enters : List (Entry K X) → Option ℕ → List (Entry K X) → Type 0
   Enters before None after =
       (lacks_room same (held_in before same spread used) key ≡ true) × (after ≡ before)
-  Enters before (Some used-then) after =
-      (lacks_room same (held_in before same spread used) key ≡ false) × (used-then ≤ length after) × (length after ≡ length before)
-      × (held_in after same spread used-then ≡ entered same (held_in before same spread used) key content)
+  Enters before (Some used_then) after =
+      (lacks_room same (held_in before same spread used) key ≡ false) × (used_then ≤ length after) × (length after ≡ length before)
+      × (held_in after same spread used_then ≡ entered same (held_in before same spread used) key content)

@@ -1,4 +1,6 @@
 // A list of entries under keys in memory that is handed over, for every kind of key and content.
+#![tactic(auto)]
+
 mod entry;
 mod key;
 mod list;

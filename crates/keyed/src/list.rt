@@ -28,7 +28,7 @@ pub struct KeyedList<'a, K, V> {
 impl<'a, K: Key, V: Copy> KeyedList<'a, K, V> {
     // An empty list. Nothing is written, whatever the memory holds.
     pub fn new(memory: &'a mut [Entry<K, V>]) -> KeyedList<'a, K, V>
-        ensures made { held result.memory.now same spread result.used ≡ new_list (length memory.old) }
+        ensures made { held result.memory.now K.same K.spread result.used ≡ new_list (length memory.old) }
         ensures memory { result.memory.now ≡ memory.old }
         ensures lent { result.memory.ghost_name ≡ memory.entry.ghost_name }
     {
@@ -46,7 +46,7 @@ impl<K: Key, V: Copy> KeyedList<'_, K, V> {
 
     // How many new keys may still be entered.
     pub fn spare(&self) -> usize
-        ensures { result ≡ (held self.now.memory.now same spread self.now.used).spare }
+        ensures { result ≡ (held self.now.memory.now K.same K.spread self.now.used).spare }
     {
         let entries = self.entries();
         if fits(entries) {
@@ -58,7 +58,7 @@ impl<K: Key, V: Copy> KeyedList<'_, K, V> {
 
     // The content that was entered last under a key.
     pub fn find(&self, key: &K) -> Option<V>
-        ensures { result ≡ (held self.now.memory.now same spread self.now.used).under key.now }
+        ensures { result ≡ (held self.now.memory.now K.same K.spread self.now.used).under key.now }
     {
         let entries = self.entries();
         if !fits(entries) {
@@ -71,8 +71,8 @@ impl<K: Key, V: Copy> KeyedList<'_, K, V> {
 
     // Enters a content: a key's second replaces its first. Answers `full` for a new key where every entry is used.
     pub fn put<E: Drop>(&mut self, key: K, content: V, full: E) -> Result<(), E>
-        ensures answer { result ≡ put_verdict same (held self.old.memory.now same spread self.old.used) key full }
-        ensures after { held self.new.memory.now same spread self.new.used ≡ put_outcome same (held self.old.memory.now same spread self.old.used) key content }
+        ensures answer { result ≡ put_verdict K.same (held self.old.memory.now K.same K.spread self.old.used) key full }
+        ensures after { held self.new.memory.now K.same K.spread self.new.used ≡ put_outcome K.same (held self.old.memory.now K.same K.spread self.old.used) key content }
         ensures refused { is_ok result ≡ false → self.new.memory.now ≡ self.old.memory.now }
         ensures size { length self.new.memory.now ≡ length self.old.memory.now }
         ensures lent { self.new.memory.ghost_name ≡ self.old.memory.ghost_name }

@@ -8,7 +8,7 @@ use crate::key::Key;
 // What is read of an entry.
 fn is_of<K: Key, V: Copy>(memory: &[Entry<K, V>], key: &K, place: usize) -> bool
     requires { place < length memory.now }
-    ensures { result ≡ is_of memory.now same key.now place }
+    ensures { result ≡ is_of memory.now K.same key.now place }
 {
     key.is(&memory[place].key)
 }
@@ -37,7 +37,7 @@ fn newest_at<K: Key, V: Copy>(memory: &[Entry<K, V>], place: usize) -> usize
 // The place of a key's entry on the chain that leads on from a place.
 fn follow<K: Key, V: Copy>(memory: &[Entry<K, V>], key: &K, from: usize) -> Option<usize>
     requires { from < length memory.now }
-    ensures { result ≡ chained (is_of memory.now same key.now) (older_at memory.now) (from + 1) from }
+    ensures { result ≡ chained (is_of memory.now K.same key.now) (older_at memory.now) (from + 1) from }
 {
     let mut place = from;
     while !is_of(memory, key, place) {
@@ -71,7 +71,7 @@ pub(crate) fn newest_from<K: Key, V: Copy>(
 // The place at which the search for a key starts.
 pub(crate) fn start_of<K: Key>(key: &K, size: usize) -> usize
     requires { 0 < size }
-    ensures is { result ≡ spread key.now % size }
+    ensures is { result ≡ K.spread key.now % size }
     ensures within { result < size }
 {
     key.spread() % size
@@ -81,7 +81,7 @@ pub(crate) fn start_of<K: Key>(key: &K, size: usize) -> usize
 fn search_chain<K: Key, V: Copy>(memory: &[Entry<K, V>], used: usize, key: &K) -> Option<usize>
     requires room { 0 < length memory.now }
     requires filled { used ≤ length memory.now }
-    ensures { result ≡ place_of memory.now same spread used key.now }
+    ensures { result ≡ place_of memory.now K.same K.spread used key.now }
 {
     let start = start_of(key, memory.len());
     let newest = newest_from(memory, used, start)?;
@@ -92,7 +92,7 @@ fn search_chain<K: Key, V: Copy>(memory: &[Entry<K, V>], used: usize, key: &K) -
 pub(crate) fn search<K: Key, V: Copy>(memory: &[Entry<K, V>], used: usize, key: &K) -> Option<usize>
     requires room { 0 < length memory.now }
     requires filled { used ≤ length memory.now }
-    ensures is { result ≡ place_of memory.now same spread used key.now }
+    ensures is { result ≡ place_of memory.now K.same K.spread used key.now }
     ensures within { IfSome result (λ place. place < length memory.now) }
 {
     search_chain(memory, used, key)

@@ -55,8 +55,8 @@ fn replace<K: Key, V: Copy>(
 )
     requires filled { used ≤ length memory.old }
     requires within { place < length memory.old }
-    requires found { place_of memory.old same spread used key ≡ Some place }
-    ensures { held_in memory.new same spread used ≡ entered same (held_in memory.old same spread used) key content }
+    requires found { place_of memory.old K.same K.spread used key ≡ Some place }
+    ensures { held_in memory.new K.same K.spread used ≡ entered K.same (held_in memory.old K.same K.spread used) key content }
 {
     let entry = memory[place];
     memory[place] = Entry { content, ..entry };
@@ -66,8 +66,8 @@ fn replace<K: Key, V: Copy>(
 fn append<K: Key, V: Copy>(memory: &mut [Entry<K, V>], used: usize, key: K, content: V)
     requires room { used < length memory.old }
     requires few { length memory.old ≤ most_entries }
-    requires absent { place_of memory.old same spread used key ≡ None }
-    ensures { held_in memory.new same spread (used + 1) ≡ entered same (held_in memory.old same spread used) key content }
+    requires absent { place_of memory.old K.same K.spread used key ≡ None }
+    ensures { held_in memory.new K.same K.spread (used + 1) ≡ entered K.same (held_in memory.old K.same K.spread used) key content }
 {
     let start = start_of(&key, memory.len());
     write(memory, used, start, key, content);
@@ -84,7 +84,7 @@ pub(crate) fn enter<K: Key, V: Copy>(
     requires filled { used ≤ length memory.old }
     requires room { 0 < length memory.old }
     requires few { length memory.old ≤ most_entries }
-    ensures { Enters same spread key content used memory.old result memory.new }
+    ensures { Enters K.same K.spread key content used memory.old result memory.new }
 {
     if let Some(place) = search(memory, used, &key) {
         replace(memory, used, key, place, content);

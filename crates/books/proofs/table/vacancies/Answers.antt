@@ -4,12 +4,11 @@ use Rattle.std.proofs.lemmas.List.Sums.{sum_by_more}
 use Rattle.std.proofs.lemmas.Bool.Decides.{nat_tests}
 use Rattle.books.specs.Table.{vacant}
 use Rattle.books.proofs.table.vacancies.Goals as goal
-use Rattle.books.proofs.table.vacancies.Goals.{then-number-gt-ENERGY-LIMIT-KWH, else-number-gt-ENERGY-LIMIT-KWH}
 
 pub loop-number-preserved : goal.loop-number-preserved
 loop-number-preserved c =
     let step = sum_by_more (λ n. cond (vacant n) 1 0) c.args.cells.now c.loop-number.number-index 0 c.loop-number-test.true in
-    elim c.if-number-gt-ENERGY-LIMIT-KWH.branch [ then-number-gt-ENERGY-LIMIT-KWH w ↦ grind (arith, nat_tests) | else-number-gt-ENERGY-LIMIT-KWH w ↦ grind (arith, nat_tests) ]
+    grind (arith, nat_tests)
 
 pub returns : goal.returns
 returns c = c.loop-number.invariant.0 ∙ ap (count_by vacant) (take_all _ _ c.loop-number-test.false)

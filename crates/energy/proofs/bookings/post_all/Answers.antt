@@ -8,7 +8,7 @@ returns g c =
     let m = g.B.Book.meaning c.args.book.now in
     let bookings = c.args.bookings.now in
     record {
-      count = c.post-each.ensures.count;
-      after = c.post-each.ensures.after;
-      last = subst (KeepsTheLast m (accepted m bookings)) (sym c.post-each.ensures.after) (keeps_the_last m bookings);
+      count = c.post_each.ensures.count;
+      after = c.post_each.ensures.after;
+      last = subst (KeepsTheLast m (accepted m bookings)) (sym c.post_each.ensures.after) (keeps_the_last m bookings);
     }

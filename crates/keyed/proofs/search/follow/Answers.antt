@@ -1,5 +1,5 @@
 -- One step along the chain, and its two ends.
-use Rattle.std.proofs.Common.{◌≡◌, ◌+◌, ◌<◌, ◌≤◌, sym, ap, ◌∙◌, arith}
+use Rattle.std.proofs.Common.{◌+◌, ◌<◌, ◌≤◌, sym, ap, ◌∙◌, arith}
 use Rattle.keyed.specs.Memory.{chained, is_of, older_at}
 use Rattle.keyed.proofs.Chains.{chained_here, chained_on, chained_ends}
 use Rattle.keyed.proofs.search.follow.Goals as goal
@@ -16,7 +16,7 @@ loop-older-preserved g c =
     let es = c.args.memory.now in
     let lower : older_at es c.loop-older.place < c.loop-older.place = omega arith in (
       omega (arith, c.loop-older.invariant.0),
-      ap (λ n. chained (is_of es g.K.Key.same c.args.key.now) (older_at es) (n + 1) n) c.older-at-older.ensures
+      ap (λ n. chained (is_of es g.K.Key.same c.args.key.now) (older_at es) (n + 1) n) c.older_at-older.ensures
           ∙ chained_on (is_of es g.K.Key.same c.args.key.now) (older_at es) c.loop-older.place (sym c.loop-older-test.ensures) lower
           ∙ c.loop-older.invariant.1,
     )

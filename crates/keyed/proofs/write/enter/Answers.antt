@@ -1,5 +1,5 @@
 -- A key that is found has its content replaced, and needs no room.
-use Rattle.std.proofs.Common.{◌≡◌, ◌-◌, ◌≤◌, not, ◌&&◌, eqb, length, sym, ap, ◌∙◌, arith}
+use Rattle.std.proofs.Common.{◌-◌, not, ◌&&◌, eqb, length, sym, ap, arith}
 use Rattle.keyed.specs.declared.entry.Entry.{Entry}
 use Rattle.keyed.proofs.Lookups.{held_some}
 use Rattle.keyed.proofs.write.enter.Goals as goal

@@ -5,13 +5,13 @@ use Rattle.energy.specs.Layers.{under_ceilings}
 use Rattle.energy.proofs.Layering.{ceilings_verdict, ceilings_outcome}
 use Rattle.energy.proofs.ceilings.CeilingsBook.post.Goals as goal
 
-pub returns-in-err-post : goal.returns-in-err-post
-returns-in-err-post g c =
-    let p = err_from_is_err_and c.from-residual.result c.from-residual.ensures.1 in
-    let below = c.in-err-post.ensures in
+pub returns-in_err-post : goal.returns-in_err-post
+returns-in_err-post g c =
+    let p = err_from_is_err_and c.from_residual.result c.from_residual.ensures.1 in
+    let below = c.in_err-post.ensures in
     let own = c.args.self.now.own in
     let m = g.B.Book.meaning c.args.self.now.below in
-    let free = sym c.if-over-own.ensures in
+    let free = sym c.if-over_own.ensures in
     rw (p.1, p.2)
     (record {
       answer = below.answer ∙ ceilings_verdict own m c.args.line c.args.period c.args.kwh free;
