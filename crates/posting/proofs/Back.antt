@@ -1,5 +1,5 @@
 -- A posting is read back from its own record.
-use Rattle.std.proofs.Common.{◌≡◌, ℕ, ◌+◌, ◌*◌, ◌/◌, ◌%◌, ◌^◌, ◌<◌, leb, List, [], ◌∷◌, ◌++◌, length, take, drop, ℤ, pos, Some, None, Ok, Err, Option, refl, ap, ◌∙◌, arith, length-append}
+use Rattle.std.proofs.Common.{◌≡◌, ℕ, ◌+◌, ◌^◌, ◌<◌, List, ◌++◌, length, take, ℤ, Some, None, Ok, Err, Option, refl, ap, ◌∙◌, arith, length-append}
 use Rattle.pricing.specs.declared.figures.Activation.{Activation}
 use Rattle.pricing.specs.declared.figures.Activations.{Activations}
 use Rattle.pricing.specs.declared.figures.SystemFigures.{SystemFigures}

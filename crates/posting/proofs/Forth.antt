@@ -1,17 +1,16 @@
 -- Bytes that are read as a posting are its record.
-use Rattle.std.proofs.Common.{◌≡◌, ℕ, zero, suc, ◌+◌, ◌*◌, ◌/◌, ◌%◌, ◌^◌, ◌<◌, ◌≤◌, Bool, true, false, cond, ◌&&◌, eqb, leb, List, [], ◌∷◌, ◌++◌, length, get_or, take, drop, ℤ, pos, negsuc, Some, None, Ok, Err, Option, unwrap_or, sym, refl, ap, ◌∙◌, subst, arith, w32, SFits}
+use Rattle.std.proofs.Common.{◌≡◌, ℕ, zero, suc, ◌+◌, ◌/◌, ◌%◌, ◌^◌, ◌<◌, ◌≤◌, Bool, true, false, cond, ◌&&◌, eqb, leb, List, [], ◌∷◌, ◌++◌, length, ℤ, pos, negsuc, Some, None, Option, unwrap_or, sym, refl, ap, ◌∙◌, subst, arith, w32, SFits}
 use Rattle.std.specs.Option.{option_map}
 use Rattle.std.proofs.lemmas.Bool.{eqb-true, leb-true, and_parts, cond_both}
 use Rattle.std.proofs.lemmas.Bool.Decides.{nat_tests}
 use Rattle.posting.specs.declared.posting.MemberEnergy.{MemberEnergy}
-use Rattle.posting.specs.declared.posting.Opening.{Opening as OpeningFigures}
 use Rattle.posting.specs.declared.posting.Posting.{Posting}
 use Rattle.posting.specs.declared.posting.Posting.TheVariants.{Opening, Schedule, Reading, Price, Figures, Settle, Reopen}
 use Rattle.posting.specs.Bytes.{byte_at, two, two_at, signed_at, signed_four}
-use Rattle.posting.specs.Encoding.{opening_fields, energy_fields, activation_fields, activations_fields, flag_of, bid_or_zero, body_of}
+use Rattle.posting.specs.Encoding.{energy_fields, flag_of, bid_or_zero, body_of}
 use Rattle.posting.specs.Reading.{if_long, opening_at, opening_in, energy_at, energy_in, price_in, period_in, activation_at, activations_at, bid_in, figures_at, figures_with, figures_in, kind_in, posting_in}
-use Rattle.posting.specs.Laws.{ProperOpening, ProperEnergy, ProperActivation, ProperActivations, ProperBid, ProperFigures, Proper}
-use Rattle.posting.proofs.Numbers.{Bytes, from, spelled, two_small, four_small, eight_small, signed_small, two_of, four_of, eight_of, signed_of}
+use Rattle.posting.specs.Laws.{ProperEnergy, ProperActivation, ProperActivations, ProperBid, Proper}
+use Rattle.posting.proofs.Numbers.{Bytes, spelled, two_small, four_small, eight_small, signed_small, two_of, four_of, eight_of, signed_of}
 
 pub none_some : {X : Type 0} (x : X) → None ≡ Some x → ⊥
 none_some x e = let z : ◌≡◌ {A = ℕ} 0 1 = cc in omega arith

@@ -1,5 +1,5 @@
 -- What is read keeps the laws of reading.
-use Rattle.std.proofs.Common.{◌≡◌, ℕ, suc, ◌+◌, ◌*◌, ◌^◌, ◌<◌, ◌≤◌, true, false, cond, leb, ◌⊎◌, List, [], ◌∷◌, ◌++◌, length, get_or, take, drop, Some, None, Ok, Err, Option, Result, sym, refl, ap, ◌∙◌, subst, inl, inr, ⊎_elim, arith, length-append, length-take}
+use Rattle.std.proofs.Common.{◌≡◌, ℕ, suc, ◌+◌, ◌*◌, ◌<◌, ◌≤◌, true, false, cond, leb, List, [], ◌∷◌, ◌++◌, length, take, drop, Some, None, Ok, Err, Option, Result, sym, refl, ap, ◌∙◌, subst, ⊎_elim, arith, length-take}
 use Rattle.refusal.specs.declared.refused.Refusal.{Refusal}
 use Rattle.std.specs.Result.{result_unwrap_or}
 use Rattle.std.proofs.lemmas.List.{get_or-take, get_or_past, length-take-le, take-append-drop}
@@ -9,7 +9,7 @@ use Rattle.posting.specs.declared.reader.Record.{Record}
 use Rattle.posting.specs.Bytes.{two, two_at}
 use Rattle.posting.specs.Encoding.{body_of, encoded}
 use Rattle.posting.specs.Reading.{posting_in, cut_short, bad_record, record_size, sized, record_in}
-use Rattle.posting.specs.Laws.{Proper, Accepts, Refuses, Reads}
+use Rattle.posting.specs.Laws.{Proper, Accepts, Reads}
 use Rattle.posting.proofs.Numbers.{Bytes, two_of}
 use Rattle.posting.proofs.Back.{back}
 use Rattle.posting.proofs.Forth.{body_forth}
@@ -59,7 +59,7 @@ module _ (high low : ℕ) (rest : List ℕ) (bytes : Bytes (high ∷ low ∷ res
         proper = written.1;
         size = both.0;
         writing = both.1;
-        sole = λ q after proper is-q. sole (high ∷ low ∷ rest) r all q after proper is-q ∙ ap (λ s. s.posting) (sym found);
+        sole = λ q after proper is_q. sole (high ∷ low ∷ rest) r all q after proper is_q ∙ ap (λ s. s.posting) (sym found);
       })
 
 -- a record that is all there has its two bytes of length

@@ -1,9 +1,9 @@
 -- The text of what is left of a file, one line at a time.
-use Rattle.std.proofs.Common.{◌≡◌, ℕ, List, [], ◌∷◌, ◌++◌, Some, None, Ok, Err, codes, Option, Result, sym, refl, ap, ◌∙◌, subst, append_assoc, append-nil}
+use Rattle.std.proofs.Common.{◌≡◌, List, [], ◌∷◌, ◌++◌, Some, None, Ok, Err, codes, Option, Result, sym, refl, ap, ◌∙◌, append_assoc, append-nil}
 use Rattle.refusal.specs.declared.refused.Refusal.{Refusal}
 use Rattle.refusal.specs.Text.{refusal_text}
 use Rattle.posting.specs.declared.file.Placed.{Placed}
-use Rattle.posting.specs.File.{Contents, nothing, first_of, next_in, rest_of, after_next}
+use Rattle.posting.specs.File.{Contents, first_of, next_in, rest_of, after_next}
 use Rattle.posting.specs.Text.{placed_text, line_text, postings_text, last_text, contents_text}
 use Rattle.posting.proofs.Forth.{none_some, same_some}
 

@@ -1,5 +1,5 @@
 -- What is written reads back.
-use Rattle.std.proofs.Common.{◌≡◌, ℕ, true, false, cond, leb, List, ◌++◌, length, drop, Ok, Err, Result, sym, ap, ◌∙◌}
+use Rattle.std.proofs.Common.{◌≡◌, ℕ, true, false, cond, leb, List, ◌++◌, length, drop, Ok, Err, Result, ap, ◌∙◌}
 use Rattle.refusal.specs.declared.refused.Refusal.{Refusal}
 use Rattle.posting.specs.declared.posting.Posting.{Posting}
 use Rattle.posting.specs.Encoding.{encoded}

@@ -1,4 +1,6 @@
 // Postings, and the records that carry them in a file.
+#![tactic(auto)]
+
 mod body;
 mod fields;
 mod file;

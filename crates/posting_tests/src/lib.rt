@@ -1,4 +1,6 @@
 // What is said of files of postings, good and bad, and how postings are written.
+#![tactic(auto)]
+
 #[cfg(test)]
 mod tests {
     use posting::{Listing, MemberEnergy, Opening, Posting, Record, read_record, write_record};

@@ -1,6 +1,9 @@
 // Prints a file of postings from standard input as text, one record to a line, up to the first bad one.
+#![tactic(auto)]
+
 use posting::Listing;
 use std::io::Read;
+use std::process::ExitCode;
 
 fn run(rt: &HostRuntime) -> anyhow::Result<()> {
     let mut file = Vec::new(rt.alloc());
@@ -10,10 +13,10 @@ fn run(rt: &HostRuntime) -> anyhow::Result<()> {
 }
 
 // Only a failure of the machine, in reading or printing, is told on standard error and ends the program with status 1.
-fn main(rt: HostRuntime) -> anyhow::Result<()> {
-    let outcome = run(&rt);
-    if let Err(error) = &outcome {
-        eprintln!(rt; "postings: {error}")?;
-    }
-    outcome
+fn main(rt: HostRuntime) -> std::io::Result<ExitCode> {
+    let Err(error) = run(&rt) else {
+        return Ok(ExitCode::SUCCESS);
+    };
+    eprintln!(rt; "postings: {error}")?;
+    Ok(ExitCode::FAILURE)
 }

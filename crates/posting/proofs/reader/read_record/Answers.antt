@@ -5,6 +5,6 @@ use Rattle.posting.proofs.reader.read_record.Goals as goal
 
 pub returns : goal.returns
 returns c = record {
-  value = c.take-record.ensures;
-  lawful = lawful c.args.bytes.now (λ i. (c.type-inv.bytes i).fits) c.take-record.result (sym c.take-record.ensures);
+  value = c.take_record.ensures;
+  lawful = lawful c.args.bytes.now (λ i. (c.type_inv.bytes i).fits) c.take_record.result (sym c.take_record.ensures);
 }

@@ -4,7 +4,7 @@ use Rattle.posting.proofs.writer.write_record.Goals as goal
 
 pub returns : goal.returns
 returns c = record {
-  answer = c.put-record.ensures.answer;
-  after = c.put-record.ensures.after;
-  reads_back = reads_back c.args.posting.now c.args.out.now c.put-record.new.out c.put-record.result c.put-record.ensures.proper c.put-record.ensures.answer c.put-record.ensures.after;
+  answer = c.put_record.ensures.answer;
+  after = c.put_record.ensures.after;
+  reads_back = reads_back c.args.posting.now c.args.out.now c.put_record.new.out c.put_record.result c.put_record.ensures.proper c.put_record.ensures.answer c.put_record.ensures.after;
 }

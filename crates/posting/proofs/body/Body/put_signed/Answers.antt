@@ -7,4 +7,4 @@ use Rattle.posting.proofs.body.Body.put_signed.Goals as goal
 
 pub returns : goal.returns
 returns c =
-    adds_is (c.to-be-bytes.ensures ∙ ap signed_four (to_z-of_z w32 c.args.number c.ranges.number)) c.put.ensures
+    adds_is (c.to_be_bytes.ensures ∙ ap signed_four (to_z-of_z w32 c.args.number c.ranges.number)) c.put.ensures

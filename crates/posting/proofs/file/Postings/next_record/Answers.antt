@@ -9,8 +9,8 @@ returns-then-place-file c =
     let e = ended_at c.args.self.now.file.now c.args.opened c.args.self.now.place (search rules) in
     record { answer = ap next_in (sym e); after = ap after_next (sym e) }
 
-pub overflow-add-self : goal.overflow-add-self
-overflow-add-self c =
+pub overflow_add-self : goal.overflow_add-self
+overflow_add-self c =
     let file = c.args.self.now.file.now in
     let long : length file < 2 ^ 64 = search rules in
     let within = within_at file c.args.opened c.args.self.now.place c.in-Ok.field-0 (search rules) c.in-Ok.ensures in

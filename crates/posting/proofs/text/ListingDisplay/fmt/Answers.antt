@@ -10,7 +10,7 @@ pub loop-step-init : goal.loop-step-init
 loop-step-init g c = λ plain. (
   [],
   record { wrote = writes_in_calls_nil g.W.Write.write_str_gives _; plain = plain },
-  ap (λ walk. contents_text (contents_left walk)) c.into-iter-step-iterator.ensures.into-iter-gives ∙ ap contents_text c.of-file-step-items.ensures,
+  ap (λ walk. contents_text (contents_left walk)) c.into_iter-step-iterator.ensures.into_iter_gives ∙ ap contents_text c.of_file-step-items.ensures,
 )
 
 pub loop-step-preserved : goal.loop-step-preserved
@@ -21,7 +21,7 @@ loop-step-preserved g c = λ plain.
     let rest = contents_text (contents_left c.next.new.self) in
     let more = line_more (contents_left c.loop-step.step-iterator) (contents_left c.next.new.self) c.in-Some.step c.in-Some.ensures.steps.0 c.in-Some.ensures.steps.1 in (
       before.0 ++ line,
-      has_written_append took c.args.f.now before.0 c.loop-step.f line c.write.new.self before.1 (c.in-ok-write.ensures.shows before.1.plain refl),
+      has_written_append took c.args.f.now before.0 c.loop-step.f line c.write.new.self before.1 (c.in_ok-write.ensures.writes before.1.plain refl),
       append_assoc before.0 line rest ∙ ap (λ text. before.0 ++ text) more ∙ before.2,
     )
 
