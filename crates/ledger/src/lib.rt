@@ -1,4 +1,6 @@
 // The ledger of a run: what its periods and members stand at, and the calls that read and change it.
+#![tactic(auto)]
+
 mod booking;
 mod concern;
 mod drawing;

@@ -11,7 +11,7 @@ use Rattle.energy.specs.Meaning.{Meaning, with_cell}
 use Rattle.ledger.specs.declared.entries.Account.{Account}
 use Rattle.ledger.specs.declared.entries.Mark.{Mark}
 use Rattle.ledger.specs.declared.entries.Mark.TheVariants.{Unpriced, Priced}
-use Rattle.ledger.specs.Answers.{nobody, ◌then◌}
+use Rattle.ledger.specs.Answers.{nobody}
 use Rattle.ledger.specs.Calls.{Opens, Posts, Prices}
 use Rattle.ledger.specs.Energies.{Energies, Sharing, gain, position_of, role_of, schedule_line, reading_line}
 use Rattle.ledger.specs.Judgement.{Held, nothing, periods_of, figures_fit, figures_verdict, mark_in_range}
@@ -133,7 +133,7 @@ module _ (o : Opening) (rule : Sharing) where
       sum_same (periods_of o) _ _ (λ q h. cond_agree (t.settled q) (u.settled q) _ _ (sym (same q)) (λ e. ap (figure f) (sym (d q e))))
 
   pub price_stands : (t : Tally) (L K : Held) (m : Meaning) (p : ℕ) (offer : Offer) → SmallOffer offer → Stands t L m → Prices o p offer (Ok tt) L K → (price : Option ℤ) → ((v : ℤ) → offer ≡ Ok v → price ≡ Some v) → Stands (with_price t p price) K m
-  price_stands t L K m p offer small-offer st prices price is =
+  price_stands t L K m p offer small_offer st prices price is =
       let a = price_accepted o L p offer prices.answer in
       let d = prices.outcome in
       let n = Priced d.price in
@@ -149,7 +149,7 @@ module _ (o : Opening) (rule : Sharing) where
         settled = λ q k. ap (λ ms. is_settled (get_or ms q Unpriced)) d.marks_after ∙ marks_agree is_settled t.settled L.marks p n l (sym open_still) q (λ _. st.settled q k);
         cells = st.cells;
         figures = st.figures;
-        small_prices = λ q k. ap (λ ms. mark_in_range (get_or ms q Unpriced)) d.marks_after ∙ marks_agree mark_in_range (λ _. true) L.marks p n l (le-leb _ _ (small-offer d.price d.offered)) q (λ _. st.small_prices q k);
+        small_prices = λ q k. ap (λ ms. mark_in_range (get_or ms q Unpriced)) d.marks_after ∙ marks_agree mark_in_range (λ _. true) L.marks p n l (le-leb _ _ (small_offer d.price d.offered)) q (λ _. st.small_prices q k);
         sums = λ i k f. ap (λ xs. figure f (get_or xs i nothing)) d.accounts_after ∙ st.sums i k f
             ∙ sum_kept t (with_price t p price) i f (λ q. refl) (λ q e. ap (λ v. gain o rule t.energies q (unwrap_or v (pos 0)) i) (updated_off p price t.prices q (other_period t p q open_still e)));
       }

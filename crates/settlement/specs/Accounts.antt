@@ -1,5 +1,5 @@
 -- That the accounts add up: what every run comes to, by its tally alone.
-use Rattle.std.specs.Prelude.{◌≡◌, ℕ, ◌<◌, true, List, length, get_or, ℤ, pos, ◌-ℤ◌, ◌*ℤ◌, Ok, slice_index_or}
+use Rattle.std.specs.Prelude.{◌≡◌, ℕ, ◌<◌, true, List, length, ℤ, pos, ◌-ℤ◌, ◌*ℤ◌, Ok, slice_index_or}
 use Rattle.std.specs.Option.{unwrap_or}
 use Rattle.charging.specs.Charge.{charge}
 use Rattle.energy.specs.Meaning.{Meaning}
@@ -31,15 +31,15 @@ module _ (o : Opening) (rule : Sharing) (t : Tally) where
   -- for both; and the members' money totals the operator's bill: price times net imbalance, over those periods.
   pub record AddsUp (accounts : List Account) : Type 0 where
     pub one_each : length accounts ≡ o.members
-    pub inside : (i : ℕ) → i < o.members → (get_or accounts i nothing).inside_kwh ≡ over_settled o t (λ p. x p i -ℤ y p i)
-    pub outside : (i : ℕ) → i < o.members → (get_or accounts i nothing).outside_kwh ≡ over_settled o t (λ p. y p i)
-    pub money : (i : ℕ) → i < o.members → (get_or accounts i nothing).money ≡ over_settled o t (λ p. charge o.internal_price (price_in p) (x p i -ℤ y p i) (y p i))
+    pub inside : (i : ℕ) → i < o.members → (slice_index_or accounts i nothing).inside_kwh ≡ over_settled o t (λ p. x p i -ℤ y p i)
+    pub outside : (i : ℕ) → i < o.members → (slice_index_or accounts i nothing).outside_kwh ≡ over_settled o t (λ p. y p i)
+    pub money : (i : ℕ) → i < o.members → (slice_index_or accounts i nothing).money ≡ over_settled o t (λ p. charge o.internal_price (price_in p) (x p i -ℤ y p i) (y p i))
     pub bill : sum_below o.members (money_of accounts) ≡ over_settled o t (λ p. price_in p *ℤ net_imbalance p)
 
   -- In a sheet the netted energies sum to zero; a member's outside energy is what the rule leaves of his imbalance, and his
   -- netted energy the remainder; neither exceeds the imbalance or has the opposite sign.
   pub record Balanced (p : ℕ) (drawn : Lists) : Type 0 where
-    pub nets_to_zero : sum_below o.members (λ i. get_or drawn.inside i (pos 0)) ≡ pos 0
+    pub nets_to_zero : sum_below o.members (λ i. slice_index_or drawn.inside i (pos 0)) ≡ pos 0
     pub outside_is : (i : ℕ) → i < o.members → slice_index_or drawn.outside i (pos 0) ≡ y p i
     pub inside_is : (i : ℕ) → i < o.members → slice_index_or drawn.inside i (pos 0) ≡ x p i -ℤ y p i
     pub outside_fits : (i : ℕ) → i < o.members → FromZeroTo (x p i) (slice_index_or drawn.outside i (pos 0))

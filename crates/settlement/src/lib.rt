@@ -1,5 +1,7 @@
 // One run of a balancing group: it is opened, schedules, readings and prices are posted, periods are settled and reopened,
 // and every account adds up.
+#![tactic(auto)]
+
 mod bills;
 mod opening;
 mod postings;

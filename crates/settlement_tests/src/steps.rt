@@ -81,8 +81,9 @@ pub fn check_accounts(rt: &impl Abort, ledger: &Ledger, expected: Accounts) -> R
     for member in 0..4u8 {
         let i = usize::from(member);
         let (inside, outside, stotinki) = expected[i];
-        assert_eq!(rt; ledger.accounts[i].inside_kwh, inside);
-        assert_eq!(rt; ledger.accounts[i].outside_kwh, outside);
+        let account = ledger.accounts[i];
+        assert_eq!(rt; account.inside_kwh, inside);
+        assert_eq!(rt; account.outside_kwh, outside);
         assert_eq!(rt; invoice(&GROUP, ledger, member)?, stotinki);
     }
     Ok(())

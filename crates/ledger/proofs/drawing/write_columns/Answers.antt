@@ -15,8 +15,8 @@ loop-i-preserved c =
     let line = get_or c.args.lines.now i no_line in
     let netted : SFits w32 line.netted_kwh = search rules in
     let outside : SFits w32 line.outside_kwh = search rules in (
-      written_more _ _ c.loop-i.inside-kwh i _ (omega arith) (to_z-of_z w32 _ netted) c.loop-i.invariant.0,
-      written_more _ _ c.loop-i.outside-kwh i _ (omega arith) (to_z-of_z w32 _ outside) c.loop-i.invariant.1,
+      written_more _ _ c.loop-i.inside_kwh i _ (omega arith) (to_z-of_z w32 _ netted) c.loop-i.invariant.0,
+      written_more _ _ c.loop-i.outside_kwh i _ (omega arith) (to_z-of_z w32 _ outside) c.loop-i.invariant.1,
     )
 
 pub returns : goal.returns
@@ -24,6 +24,6 @@ returns c =
     let lines = c.args.lines.now in
     let all : c.loop-i.i ≡ length lines = omega arith in
     record {
-      inside = subst (λ n. Written n (λ i. (get_or lines i no_line).netted_kwh) c.args.inside-kwh.now c.loop-i.inside-kwh) all c.loop-i.invariant.0;
-      outside = subst (λ n. Written n (λ i. (get_or lines i no_line).outside_kwh) c.args.outside-kwh.now c.loop-i.outside-kwh) all c.loop-i.invariant.1;
+      inside = subst (λ n. Written n (λ i. (get_or lines i no_line).netted_kwh) c.args.inside_kwh.now c.loop-i.inside_kwh) all c.loop-i.invariant.0;
+      outside = subst (λ n. Written n (λ i. (get_or lines i no_line).outside_kwh) c.args.outside_kwh.now c.loop-i.outside_kwh) all c.loop-i.invariant.1;
     }

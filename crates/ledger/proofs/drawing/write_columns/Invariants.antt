@@ -6,5 +6,5 @@ use Rattle.ledger.proofs.drawing.write_columns.Given as goal
 
 abbrev pub invariant-loop-i : goal.invariant-loop-i
 invariant-loop-i l =
-    Written l.i (λ i. (get_or l.lines i no_line).netted_kwh) l.initial.inside-kwh l.inside-kwh
-    × Written l.i (λ i. (get_or l.lines i no_line).outside_kwh) l.initial.outside-kwh l.outside-kwh
+    Written l.i (λ i. (get_or l.lines i no_line).netted_kwh) l.initial.inside_kwh l.inside_kwh
+    × Written l.i (λ i. (get_or l.lines i no_line).outside_kwh) l.initial.outside_kwh l.outside_kwh

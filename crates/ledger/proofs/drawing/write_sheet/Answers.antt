@@ -4,6 +4,6 @@ use Rattle.ledger.specs.Judgement.{held_in}
 use Rattle.ledger.proofs.Judged.{judged_with_book_facts}
 use Rattle.ledger.proofs.drawing.write_sheet.Goals as goal
 
-pub draw-judged-requires : goal.draw-judged-requires
-draw-judged-requires g c =
-    judged_with_book_facts _ c.args.opening.now (held_in c.args.ledger.now) (g.B.Book.meaning c.args.book.now) (sym c.in-ok-judge-with-book.ensures)
+pub draw_judged-requires : goal.draw_judged-requires
+draw_judged-requires g c =
+    judged_with_book_facts _ c.args.opening.now (held_in c.args.ledger.now) (g.B.Book.meaning c.args.book.now) (sym c.in_ok-judge_with_book.ensures)

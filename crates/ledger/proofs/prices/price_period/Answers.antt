@@ -4,5 +4,5 @@ use Rattle.ledger.specs.Judgement.{held_in}
 use Rattle.ledger.proofs.Judged.{judged_facts}
 use Rattle.ledger.proofs.prices.price_period.Goals as goal
 
-pub price-judged-requires : goal.price-judged-requires
-price-judged-requires c = judged_facts _ c.args.opening.now (held_in c.args.ledger.now) (sym c.in-ok-judge.ensures)
+pub price_judged-requires : goal.price_judged-requires
+price_judged-requires c = judged_facts _ c.args.opening.now (held_in c.args.ledger.now) (sym c.in_ok-judge.ensures)

@@ -3,4 +3,4 @@ use Rattle.settlement.proofs.Rounded.{fair}
 use Rattle.settlement.proofs.bills.invoice.Goals as goal
 
 pub returns : goal.returns
-returns c = record { does = c.invoice-line.ensures; fair = fair _ _ }
+returns c = record { does = c.invoice_line.ensures; fair = fair _ _ }

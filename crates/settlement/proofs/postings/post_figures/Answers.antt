@@ -6,11 +6,11 @@ use Rattle.settlement.proofs.postings.post_figures.Goals as goal
 
 pub returns : goal.returns
 returns c =
-    let h = c.enter-figures.ensures in
+    let h = c.enter_figures.ensures in
     let p = c.args.period in
     let f = c.args.figures.now in
     record {
       does = h.does;
       same = h.same;
-      goes_on = λ m lawful rule law. goes_on _ rule law (post_figures p f) c.enter-figures.result lawful (λ t run. figured p f run h.does);
+      goes_on = λ m lawful rule law. goes_on _ rule law (post_figures p f) c.enter_figures.result lawful (λ t run. figured p f run h.does);
     }

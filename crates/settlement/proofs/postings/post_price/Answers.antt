@@ -13,10 +13,10 @@ pub returns : goal.returns
 returns c =
     let p = c.args.period in
     let v = c.args.price in
-    let r = c.enter-price.result in
-    let h = subst (λ z. Prices c.args.opening.now p (published z) r (held_in c.args.ledger.now) (held_in c.enter-price.new.ledger)) (to_z-of_z w32 v c.ranges.price) c.enter-price.ensures.does in
+    let r = c.enter_price.result in
+    let h = subst (λ z. Prices c.args.opening.now p (published z) r (held_in c.args.ledger.now) (held_in c.enter_price.new.ledger)) (to_z-of_z w32 v c.ranges.price) c.enter_price.ensures.does in
     record {
       does = h;
-      same = c.enter-price.ensures.same;
+      same = c.enter_price.ensures.same;
       goes_on = λ m lawful rule law. goes_on _ rule law (post_price p v) r lawful (λ t run. priced p v run h);
     }

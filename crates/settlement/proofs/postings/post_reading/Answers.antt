@@ -6,9 +6,9 @@ use Rattle.settlement.proofs.postings.post_reading.Goals as goal
 
 pub returns : goal.returns
 returns g c =
-    let h = c.enter-reading.ensures in
-    let lawful = g.B.Book.lawful c.enter-reading.new.book in
+    let h = c.enter_reading.ensures in
+    let lawful = g.B.Book.lawful c.enter_reading.new.book in
     record {
       does = h;
-      goes_on = λ rule law. goes_on _ rule law (post_reading c.args.energy) c.enter-reading.result lawful (λ t run. metered c.args.energy run h);
+      goes_on = λ rule law. goes_on _ rule law (post_reading c.args.energy) c.enter_reading.result lawful (λ t run. metered c.args.energy run h);
     }

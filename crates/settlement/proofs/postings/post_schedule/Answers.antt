@@ -6,9 +6,9 @@ use Rattle.settlement.proofs.postings.post_schedule.Goals as goal
 
 pub returns : goal.returns
 returns g c =
-    let h = c.enter-schedule.ensures in
-    let lawful = g.B.Book.lawful c.enter-schedule.new.book in
+    let h = c.enter_schedule.ensures in
+    let lawful = g.B.Book.lawful c.enter_schedule.new.book in
     record {
       does = h;
-      goes_on = λ rule law. goes_on _ rule law (post_schedule c.args.energy) c.enter-schedule.result lawful (λ t run. scheduled c.args.energy run h);
+      goes_on = λ rule law. goes_on _ rule law (post_schedule c.args.energy) c.enter_schedule.result lawful (λ t run. scheduled c.args.energy run h);
     }
