@@ -1,5 +1,5 @@
 -- What a posting does to a book, from the answer to it.
-use Rattle.std.proofs.Common.{◌≡◌, ℕ, ◌-◌, ◌<◌, ◌≤◌, Bool, true, false, cond, not, ◌&&◌, eqb, ltb, leb, is_some, is_ok, Ok, Err, Option, sym, ap, ◌∙◌, arith}
+use Rattle.std.proofs.Common.{◌≡◌, ℕ, ◌-◌, ◌<◌, ◌≤◌, true, false, cond, not, ◌&&◌, eqb, ltb, leb, is_some, is_ok, Ok, Err, Option, ap, ◌∙◌, arith}
 use Rattle.std.proofs.lemmas.Bool.{cond-true, cond-false, lt-leb, le-ltb}
 use Rattle.std.proofs.lemmas.Bool.Decides.{nat_tests}
 use Rattle.charging.specs.Limits.{energy_limit}
@@ -8,7 +8,7 @@ use Rattle.refusal.specs.declared.reason.Reason.TheVariants.{Full}
 use Rattle.refusal.specs.declared.refused.Refusal.{Refusal}
 use Rattle.refusal.specs.Numbers.{at_cell}
 use Rattle.energy.specs.Meaning.{Meaning, book_verdict, book_outcome, posted, with_cell}
-use Rattle.books.specs.Plain.{plain, no_book, plain_check}
+use Rattle.books.specs.Plain.{plain, plain_check}
 
 module _ (m : Meaning) (line period kwh : ℕ) where
   pub after_accepted : book_verdict m line period kwh ≡ Ok tt → book_outcome m line period kwh ≡ posted m line period kwh
@@ -16,27 +16,6 @@ module _ (m : Meaning) (line period kwh : ℕ) where
 
   pub after_refused : (why : Refusal) → book_verdict m line period kwh ≡ Err why → book_outcome m line period kwh ≡ m
   after_refused why e = cond-false (is_ok (book_verdict m line period kwh)) (posted m line period kwh) m (ap is_ok e)
-
--- a book with no layer over it, or none at all
-abbrev pub made : Bool → ℕ → ℕ → ℕ → (ℕ → ℕ → Option ℕ) → Meaning
-made fits lines periods spare cells = cond fits (plain lines periods spare cells) no_book
-
--- what is refused before the question of room
-module _ (spare : ℕ) (cells : ℕ → ℕ → Option ℕ) (line period kwh : ℕ) (why : Refusal) where
-  plain_refused : (lines periods : ℕ) → plain_check lines periods line period kwh ≡ Err why → book_verdict (plain lines periods spare cells) line period kwh ≡ Err why
-  plain_refused lines periods e = grind (arith, nat_tests)
-
-  pub made_refused : (fits : Bool) (lines periods : ℕ)
-      → plain_check (made fits lines periods spare cells).lines (made fits lines periods spare cells).periods line period kwh ≡ Err why
-      → (Err why ≡ book_verdict (made fits lines periods spare cells) line period kwh)
-      × (made fits lines periods spare cells ≡ book_outcome (made fits lines periods spare cells) line period kwh)
-  made_refused true lines periods e =
-      let refused = plain_refused lines periods e in
-      (sym refused, sym (after_refused (plain lines periods spare cells) line period kwh why refused))
-  made_refused false lines periods e = none (grind (arith, nat_tests))
-    where
-      none : book_verdict no_book line period kwh ≡ Err why → (Err why ≡ book_verdict no_book line period kwh) × (no_book ≡ book_outcome no_book line period kwh)
-      none refused = (sym refused, sym (after_refused no_book line period kwh why refused))
 
 -- what passes
 pub record Postable (lines periods line period kwh : ℕ) : Type 0 where

@@ -1,44 +1,17 @@
--- What a table's memory means once it is cleared, and after a write to it.
-use Rattle.std.proofs.Common.{◌≡◌, ℕ, zero, suc, ◌+◌, ◌-◌, ◌*◌, ◌/◌, ◌%◌, ◌<◌, ◌≤◌, Bool, true, false, cond, not, ◌&&◌, eqb, ltb, List, length, get_or, set, replicate, is_some, None, Ok, count_by, sym, refl, ap, ◌∙◌, ap₂, ⊎_elim, arith}
+-- What a table's memory means after a write to it.
+use Rattle.std.proofs.Common.{◌≡◌, ℕ, ◌+◌, ◌-◌, ◌*◌, ◌/◌, ◌%◌, ◌<◌, ◌≤◌, true, false, cond, not, ◌&&◌, eqb, ltb, List, length, get_or, set, is_some, None, count_by, sym, ap, ◌∙◌, ap₂, ⊎_elim, arith}
 use mathlib.Core.Path.{fun_ext}
 use Rattle.std.proofs.lemmas.Nat.{div-mul-add, mod-mul-add, mul-add-lt}
-use Rattle.std.proofs.lemmas.List.{get_or-set_same, get_or-set_other, get_or_past, get_or_default, get_or-replicate, length-replicate, length-set}
-use Rattle.std.proofs.lemmas.List.Sums.{sum_by-set, sum_by-cons, get_or-le-sum_by}
-use Rattle.std.proofs.lemmas.Bool.{cases_eq, cases_lt, cond-true, cond-false, and_parts, eqb-true, lt-ltb, and_from}
+use Rattle.std.proofs.lemmas.List.{get_or-set_same, get_or-set_other, length-set}
+use Rattle.std.proofs.lemmas.List.Sums.{sum_by-set, get_or-le-sum_by}
+use Rattle.std.proofs.lemmas.Bool.{cases_eq, cases_lt, cond-true, and_parts, eqb-true, lt-ltb, and_from}
 use Rattle.std.proofs.lemmas.Bool.Decides.{nat_tests}
 use Rattle.charging.specs.Limits.{energy_limit}
 use Rattle.energy.specs.Limits.{within_limits}
-use Rattle.energy.specs.Meaning.{Meaning, book_verdict, book_outcome, with_cell}
-use Rattle.books.specs.Plain.{plain, fresh, no_book}
-use Rattle.books.specs.Table.{empty_mark, vacant, kwh_in, table, table_in, table_cell, fits_table, table_made, table_memory}
-use Rattle.books.proofs.Postings.{plain_accepts, plain_posted}
-
--- a table of empty cells
-module _ (lines periods n : ℕ) where
-  empty_at : (i : ℕ) → get_or (replicate n empty_mark) i empty_mark ≡ empty_mark
-  empty_at i =
-      ⊎_elim (λ h. get_or-replicate n i empty_mark empty_mark h)
-      (λ h. get_or_past (replicate n empty_mark) i empty_mark (simp length-replicate h))
-      (cases_lt i n)
-
-  empty_cells : table_cell lines periods (replicate n empty_mark) ≡ (λ _ _. None)
-  empty_cells = fun_ext (λ l. fun_ext (λ p. let h = empty_at (l * periods + p) in grind (arith, nat_tests)))
-
-all_vacant : (n : ℕ) → count_by vacant (replicate n empty_mark) ≡ n
-all_vacant zero = refl
-all_vacant (suc n) = sum_by-cons (λ k. cond (vacant k) 1 0) empty_mark (replicate n empty_mark) ∙ ap (λ k. 1 + k) (all_vacant n) ∙ omega arith
-
-module _ (lines periods : ℕ) (memory : List ℕ) where
-  pub made_empty : (b : Bool) → fits_table lines periods (length memory) ≡ b → table lines periods (table_memory lines periods memory) ≡ table_made lines periods (length memory)
-  made_empty true fits =
-      ap (table lines periods) (cond-true _ (replicate (length memory) empty_mark) memory fits)
-      ∙ cond-true _ (table_in lines periods (replicate (length memory) empty_mark)) no_book (ap (fits_table lines periods) (length-replicate (length memory) empty_mark) ∙ fits)
-      ∙ ap₂ (plain lines periods) (all_vacant (length memory)) (empty_cells lines periods (length memory))
-      ∙ sym (cond-true _ (fresh lines periods (length memory)) no_book fits)
-  made_empty false misfit =
-      ap (table lines periods) (cond-false _ (replicate (length memory) empty_mark) memory misfit)
-      ∙ cond-false _ (table_in lines periods memory) no_book misfit
-      ∙ sym (cond-false _ (fresh lines periods (length memory)) no_book misfit)
+use Rattle.energy.specs.Meaning.{book_outcome, with_cell}
+use Rattle.books.specs.Plain.{plain, no_book}
+use Rattle.books.specs.Table.{empty_mark, vacant, kwh_in, table, table_in, table_cell, fits_table}
+use Rattle.books.proofs.Postings.{plain_posted}
 
 -- one cell of a table that fits
 module _ (lines periods : ℕ) (memory : List ℕ) (line period : ℕ) (in_lines : line < lines) (in_periods : period < periods) (fits : fits_table lines periods (length memory) ≡ true) where
@@ -57,13 +30,6 @@ module _ (lines periods : ℕ) (memory : List ℕ) (line period : ℕ) (in_lines
   in_book : table_cell lines periods memory line period ≡ kwh_in (get_or memory place empty_mark)
   unfolding place
   in_book = cond-true (ltb line lines && ltb period periods) _ None (and_from (ltb line lines) (ltb period periods) (lt-ltb line lines in_lines) (lt-ltb period periods in_periods))
-
-  pub table_read : (d : ℕ) → kwh_in (get_or memory (line * periods + period) d) ≡ (table lines periods memory).cell line period
-  unfolding place
-  table_read d =
-      ap kwh_in (get_or_default memory place d empty_mark within)
-      ∙ sym in_book
-      ∙ ap (λ (m : Meaning). m.cell line period) (sym is_open)
 
   -- a write to it
   module _ (kwh : ℕ) (small : kwh ≤ energy_limit) where
@@ -103,11 +69,6 @@ module _ (lines periods : ℕ) (memory : List ℕ) (line period : ℕ) (in_lines
 
     room : (not (is_some (table_cell lines periods memory line period)) && eqb (count_by vacant memory) 0) ≡ false
     room = ap (λ o. not (is_some o) && eqb (count_by vacant memory) 0) in_book ∙ counted.1
-
-    pub table_accepts : book_verdict (table lines periods memory) line period kwh ≡ Ok tt
-    table_accepts =
-        ap (λ m. book_verdict m line period kwh) is_open
-        ∙ plain_accepts lines periods (count_by vacant memory) (table_cell lines periods memory) line period kwh in_lines in_periods small room
 
     pub table_posted : table lines periods (set memory (line * periods + period) kwh) ≡ book_outcome (table lines periods memory) line period kwh
     unfolding place

@@ -6,9 +6,10 @@ use Rattle.std.proofs.lemmas.Bool.{true≢false, and_parts}
 use Rattle.charging.specs.Limits.{energy_limit}
 use Rattle.keyed.specs.Contents.{Contents, fits_list}
 use Rattle.energy.specs.Limits.{WithinLimits, most_lines, most_periods, within_limits}
-use Rattle.energy.specs.Meaning.{Lawful}
-use Rattle.books.specs.Plain.{plain, no_book}
+use Rattle.energy.specs.Meaning.{Meaning, Lawful}
+use Rattle.books.specs.Plain.{plain, no_book, sized}
 use Rattle.books.specs.declared.cell.Cell.{Cell}
+use Rattle.books.specs.declared.size.Size.{Size}
 use Rattle.books.specs.Listed.{cut, listed, listed_in, fits_listed}
 use Rattle.books.specs.Table.{vacant, kwh_in, table, table_in, fits_table, empty_mark}
 
@@ -49,6 +50,10 @@ no_book_lawful = record {
   empty_outside = λ line period e. refl;
   low_ceilings = λ line. omega arith;
 }
+
+pub sized_lawful : (book : ℕ → ℕ → Meaning) → ((lines periods : ℕ) → Lawful (book lines periods)) → (size : Option Size) → Lawful (sized book size)
+sized_lawful book lawful None = no_book_lawful
+sized_lawful book lawful (Some size) = lawful size.lines size.periods
 
 small_kwh : (number : ℕ) (b : Bool) → vacant number ≡ b → unwrap_or (cond b None (Some number)) 0 ≤ energy_limit
 small_kwh number true e = omega arith

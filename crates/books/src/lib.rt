@@ -3,7 +3,7 @@
 
 mod cell;
 mod listed;
-mod plain;
+mod size;
 mod table;
 
 pub use cell::Cell;

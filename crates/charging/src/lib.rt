@@ -4,5 +4,5 @@
 mod charge;
 mod imbalance;
 
-pub use charge::{INTERNAL_PRICE_LIMIT, charge_of};
-pub use imbalance::{ENERGY_LIMIT_KWH, Position, Role, imbalance_kwh};
+pub use charge::{INTERNAL_PRICE_LIMIT, Prices};
+pub use imbalance::{ENERGY_LIMIT_KWH, Position, Role};

@@ -1,59 +1,103 @@
--- The lines of a text are its first line and those of what follows that line's end.
-use Rattle.std.proofs.Common.{◌≡◌, ℕ, suc, ◌+◌, ◌<◌, true, false, not, List, [], ◌∷◌, length, take, drop, Ok, Err, Result, sym, refl, ap, ◌∙◌, inl, inr, one-add, arith}
-use Rattle.std.proofs.lemmas.Bool.{cond-true, cond-false, cases_Bool}
-use Rattle.std.specs.List.{prefix_len}
-use Rattle.description.specs.declared.draft.Quarter.{Quarter}
+-- The parts between line ends describe what the lines describe: a last part that is empty adds nothing.
+use Rattle.std.proofs.Common.{◌≡◌, ℕ, ◌+◌, ◌<◌, Bool, false, List, [], ◌∷◌, ◌++◌, ◌⊎◌, length, get_or, drop, Some, None, Option, Result, refl, ap, ◌∙◌, inl, inr, sym, arith}
+use Rattle.std.proofs.lemmas.Bool.{cases_Bool}
+use Rattle.std.proofs.lemmas.List.{at_drop_more}
+use Rattle.std.proofs.lemmas.List.FromFn.{length-enumerate_from, get_or-enumerate_from}
+use Rattle.std.proofs.lemmas.Iterator.{YieldsList}
+use Rattle.std.proofs.lemmas.Iterator.Consumers.{YieldsList-turn, YieldsList-end, YieldsList-from_enumerate, YieldsList-at}
+use Rattle.std.proofs.lemmas.Iterator.Splits.{YieldsList-from_slice_split}
+use Rattle.std.specs.Iterator.{Yields}
+use Rattle.std.specs.Iterator.Adapters.{enumerate_source, enumerate_count, enumerate_steps}
+use Rattle.std.specs.Slice.Iter.{split_rest, split_done, split_callee, split_steps}
+use Rattle.std.specs.declared.iter.Enumerate.{Enumerate}
+use Rattle.std.specs.declared.slice.Split.{Split}
+use Rattle.std.specs.Fn.{CalledAt}
+use denote.Param.Members.{Mut}
+use denote.Ref.{Bor}
+use Rattle.std.specs.List.{slice_split, onto_first, enumerate_from}
 use Rattle.description.specs.declared.draft.Draft.{Draft}
-use Rattle.description.specs.declared.problem.Fault.{Fault}
+use Rattle.description.specs.declared.draft.Quarter.{Quarter}
 use Rattle.description.specs.declared.problem.Problem.{Problem}
-use Rattle.description.specs.declared.problem.Problem.TheVariants.{Line}
-use Rattle.description.specs.declared.words.Kind.TheVariants.{InLine}
-use Rattle.description.specs.Words.{is_of, ends_line, prepended, lines_of}
+use Rattle.description.specs.Words.{ends_line, lines_of}
 use Rattle.description.specs.Entries.{and_then}
-use Rattle.description.specs.Figures.{draft_after_line, at_line, quarter_after}
+use Rattle.description.specs.Figures.{at_line, draft_after_line, quarter_after}
 
--- how long the first line is
-abbrev pub line_length : List ℕ → ℕ
-line_length text = prefix_len (is_of InLine) text
+-- the parts are the lines, or the lines and an empty part
+abbrev Parts : List (List ℕ) → List (List ℕ) → Type 0
+Parts parts lines = (parts ≡ lines) ⊎ (parts ≡ lines ++ ([] ∷ []))
 
-ends_at_once : (byte : ℕ) (more : List ℕ) → ends_line byte ≡ true → lines_of (byte ∷ more) ≡ take (line_length (byte ∷ more)) (byte ∷ more) ∷ lines_of (drop (line_length (byte ∷ more) + 1) (byte ∷ more))
-ends_at_once byte more ends =
-    let none : line_length (byte ∷ more) ≡ 0 = cond-false (not (ends_line byte)) _ _ (ap not ends) in
-    cond-true (ends_line byte) _ _ ends ∙ sym (ap (λ (n : ℕ). take n (byte ∷ more) ∷ lines_of (drop (n + 1) (byte ∷ more))) none)
+closed : (byte : ℕ) (parts lines : List (List ℕ)) → parts ≡ lines ++ ([] ∷ []) → Parts (onto_first byte parts) (onto_first byte lines)
+closed byte parts [] e = inl (ap (onto_first byte) e)
+closed byte parts (line ∷ more) e = inr (ap (onto_first byte) e)
 
-goes_on : (byte : ℕ) (more : List ℕ) → ends_line byte ≡ false → prepended byte (lines_of more) ≡ (byte ∷ take (line_length more) more) ∷ lines_of (drop (line_length more + 1) more) → lines_of (byte ∷ more) ≡ take (line_length (byte ∷ more)) (byte ∷ more) ∷ lines_of (drop (line_length (byte ∷ more) + 1) (byte ∷ more))
-goes_on byte more stays rest =
-    let one : line_length (byte ∷ more) ≡ suc (line_length more) = cond-true (not (ends_line byte)) _ _ (ap not stays) ∙ one-add (line_length more) in
-    let two : suc (line_length more) + 1 ≡ suc (line_length more + 1) = omega arith in
-    cond-false (ends_line byte) _ _ stays
-    ∙ rest
-    ∙ ap (λ (m : ℕ). take (suc (line_length more)) (byte ∷ more) ∷ lines_of (drop m (byte ∷ more))) (sym two)
-    ∙ ap (λ (n : ℕ). take n (byte ∷ more) ∷ lines_of (drop (n + 1) (byte ∷ more))) (sym one)
+goes_on : (byte : ℕ) (parts lines : List (List ℕ)) → Parts parts lines → Parts (onto_first byte parts) (onto_first byte lines)
+goes_on byte parts lines (inl e) = inl (ap (onto_first byte) e)
+goes_on byte parts lines (inr e) = closed byte parts lines e
 
--- the lines of a text that is not empty: its first, and those of what follows that line's end
-pub first_line : (text : List ℕ) → 0 < length text → lines_of text ≡ take (line_length text) text ∷ lines_of (drop (line_length text + 1) text)
-first_line [] some = absurd (omega arith)
-first_line (byte ∷ []) some =
-    elim (cases_Bool (ends_line byte)) [ inl ends ↦ ends_at_once byte [] ends | inr stays ↦ goes_on byte [] stays refl ]
-first_line (byte ∷ next ∷ more) some =
+ended : (parts lines : List (List ℕ)) → Parts parts lines → Parts ([] ∷ parts) ([] ∷ lines)
+ended parts lines (inl e) = inl (ap (λ (xs : List (List ℕ)). [] ∷ xs) e)
+ended parts lines (inr e) = inr (ap (λ (xs : List (List ℕ)). [] ∷ xs) e)
+
+parts_of : (text : List ℕ) → Parts (slice_split ends_line text) (lines_of text)
+parts_of [] = inr refl
+parts_of (byte ∷ more) =
     elim (cases_Bool (ends_line byte)) [
-      | inl ends ↦ ends_at_once byte (next ∷ more) ends
-      | inr stays ↦ goes_on byte (next ∷ more) stays (ap (prepended byte) (first_line (next ∷ more) (omega arith)))
+      | inl ends ↦ rw ends (ended _ _ (parts_of more))
+      | inr stays ↦ rw stays (goes_on byte _ _ (parts_of more))
     ]
 
--- what a text describes, from the line of this number on, once its first line is taken off it
-module _ (number : ℕ) (draft : Draft) (text line rest : List ℕ) (some : 0 < length text) (is_line : line ≡ take (line_length text) text) (is_rest : rest ≡ drop (line_length text + 1) text) where
-  by_line : quarter_after number draft (lines_of text) ≡ and_then (at_line number (draft_after_line draft line)) (λ next. quarter_after (number + 1) next (lines_of rest))
-  by_line =
-      ap (quarter_after number draft) (first_line text some)
-      ∙ ap (λ (xs : List ℕ). quarter_after number draft (xs ∷ lines_of (drop (line_length text + 1) text))) (sym is_line)
-      ∙ ap (λ (xs : List ℕ). quarter_after number draft (line ∷ lines_of xs)) (sym is_rest)
+empty_adds_nothing : (lines : List (List ℕ)) (number : ℕ) (draft : Draft) → quarter_after number draft (lines ++ ([] ∷ [])) ≡ quarter_after number draft lines
+empty_adds_nothing [] number draft = refl
+empty_adds_nothing (line ∷ more) number draft =
+    λ i. and_then (at_line number (draft_after_line draft line)) (λ next. empty_adds_nothing more (number + 1) next i)
 
-  abbrev follow : Result Draft Fault → Result Quarter Problem
-  follow r = and_then (at_line number r) (λ next. quarter_after (number + 1) next (lines_of rest))
+same : (parts lines : List (List ℕ)) → Parts parts lines → (number : ℕ) (draft : Draft) → quarter_after number draft parts ≡ quarter_after number draft lines
+same parts lines (inl e) number draft = ap (quarter_after number draft) e
+same parts lines (inr e) number draft = ap (quarter_after number draft) e ∙ empty_adds_nothing lines number draft
 
-  pub at_fault : (fault : Fault) → Err fault ≡ draft_after_line draft line → quarter_after number draft (lines_of text) ≡ Err (Line number fault)
-  at_fault fault e = by_line ∙ ap follow (sym e)
+pub parts_describe : (text : List ℕ) (number : ℕ) (draft : Draft) → quarter_after number draft (slice_split ends_line text) ≡ quarter_after number draft (lines_of text)
+parts_describe text number draft = same _ _ (parts_of text) number draft
 
-  pub past_line : (next : Draft) → Ok next ≡ draft_after_line draft line → quarter_after number draft (lines_of text) ≡ quarter_after (number + 1) next (lines_of rest)
-  past_line next e = by_line ∙ ap follow (sym e)
+-- ---- one part after the other, each with its number
+
+abbrev Turn : List (List ℕ) → ℕ → ℕ × List ℕ → Type 0
+Turn parts n item = (n < length (enumerate_from 0 parts)) × (item ≡ get_or (enumerate_from 0 parts) n item)
+
+-- the numbered parts that splitting a text at its line ends gives
+module _ {F : Type 0} (g : Mut F (Bor ℕ × Unit {0}) Bool) (text : List ℕ) (s : Enumerate (Split ℕ F)) where
+  abbrev pub IsSplit : (e : Enumerate (Split ℕ F)) (p : Split ℕ F) (f : F) → Type 0
+  IsSplit e p f =
+      (s ≡ e) × (enumerate_source e ≡ p) × (enumerate_count e ≡ 0) × (split_rest p ≡ text) × (split_done p ≡ false) × (split_callee p ≡ f)
+      × ((x : ℕ) (b : Bool) (q : F) → CalledAt g f x b q → (q ≡ f) × (b ≡ ends_line x))
+
+  road : (e : Enumerate (Split ℕ F)) (p : Split ℕ F) (f : F) → IsSplit e p f → YieldsList (enumerate_steps (split_steps g)) (λ i. (i.0, i.1.now)) s (enumerate_from 0 (slice_split ends_line text))
+  road e p f h =
+      YieldsList-at h.0 (YieldsList-from_enumerate (YieldsList-at h.1 (YieldsList-from_slice_split g ends_line text h.3 h.4 h.5 h.6)) h.2)
+
+  pub part_turn : (xs : List (ℕ × Bor (List ℕ))) (t : Enumerate (Split ℕ F)) → Yields (enumerate_steps (split_steps g)) s xs t → (r : Option (ℕ × Bor (List ℕ))) (u : Enumerate (Split ℕ F)) (x : ℕ × Bor (List ℕ)) → r ≡ Some x → enumerate_steps (split_steps g) t r u → (e : Enumerate (Split ℕ F)) (p : Split ℕ F) (f : F) → IsSplit e p f → Turn (slice_split ends_line text) (length xs) (x.0, x.1.now)
+  part_turn xs t y r u x is step e p f h = YieldsList-turn (road e p f h) xs t y r u x is step
+
+  pub parts_end : (xs : List (ℕ × Bor (List ℕ))) (t : Enumerate (Split ℕ F)) → Yields (enumerate_steps (split_steps g)) s xs t → (r : Option (ℕ × Bor (List ℕ))) (u : Enumerate (Split ℕ F)) → r ≡ None → enumerate_steps (split_steps g) t r u → (e : Enumerate (Split ℕ F)) (p : Split ℕ F) (f : F) → IsSplit e p f → length xs ≡ length (slice_split ends_line text)
+  parts_end xs t y r u is step e p f h =
+      (YieldsList-end (road e p f h) xs t y r u is step).1 ∙ length-enumerate_from 0 (slice_split ends_line text)
+
+module _ (parts : List (List ℕ)) (n : ℕ) (draft : Draft) (index : ℕ) (line : List ℕ) (turn : Turn parts n (index, line)) where
+  within : n < length parts
+  within = simp length-enumerate_from at turn.0
+
+  item_is : ◌≡◌ {A = ℕ × List ℕ} (index, line) (n, get_or parts n line)
+  item_is =
+      let zero : 0 + n ≡ n = omega arith in
+      turn.1 ∙ get_or-enumerate_from 0 parts n (index, line) within ∙ ap (λ (m : ℕ). (m, get_or parts n line)) zero
+
+  abbrev follow : Result Draft Problem → Result Quarter Problem
+  follow r = and_then r (λ next. quarter_after (n + 1 + 1) next (drop (n + 1) parts))
+
+  by_part : quarter_after (n + 1) draft (drop n parts) ≡ follow (at_line (index + 1) (draft_after_line draft line))
+  by_part =
+      at_drop_more (quarter_after (n + 1) draft) parts n line within
+      ∙ sym (ap (λ (p : ℕ × List ℕ). follow (at_line (p.0 + 1) (draft_after_line draft p.1))) item_is)
+
+  -- what is known once a part is entered, or its fault, describes what was left with it
+  pub entered : (r : Result Draft Problem) (all : Result Quarter Problem) → r ≡ at_line (index + 1) (draft_after_line draft line) → quarter_after (n + 1) draft (drop n parts) ≡ all → follow r ≡ all
+  entered r all is before = ap follow is ∙ sym by_part ∙ before

@@ -39,12 +39,16 @@ keyword_of word =
     (cond (bytes_eq word (codes "consumer")) (Some Consumer)
     None))))))))
 
--- the signed number and the energy that a word should be: an empty word is a missing one
+-- the number that was read of a word: an empty word is a missing one, and of any other this is the fault
+abbrev pub expected : {N : Type 0} → List ℕ → Option N → Fault → Result N Fault
+expected word number fault = cond (is_empty word) (Err NumberMissing) (ok_or number fault)
+
+-- the signed number and the energy that a word should be
 abbrev pub number_in : List ℕ → Result ℤ Fault
-number_in word = cond (is_empty word) (Err NumberMissing) (ok_or (signed_number word) NotNumber)
+number_in word = expected word (signed_number word) NotNumber
 
 abbrev pub energy_in : List ℕ → Result ℕ Fault
-energy_in word = cond (is_empty word) (Err NumberMissing) (ok_or (unsigned_number word) NotEnergy)
+energy_in word = expected word (unsigned_number word) NotEnergy
 
 -- x, where no word is left
 abbrev pub at_end : {X : Type 0} → List ℕ → X → Result X Fault

@@ -1,5 +1,5 @@
 -- The quarter of an hour that a text describes.
-use Rattle.std.specs.Prelude.{ℕ, ◌+◌, List, [], ◌∷◌, pos, Some, None, Ok, Err, Option, Result}
+use Rattle.std.specs.Prelude.{ℕ, ◌+◌, cond, List, [], ◌∷◌, ◌++◌, length, pos, Some, None, Ok, Err, Option, Result, nat_lt, slice_index_or}
 use Rattle.std.specs.Option.{ok_or}
 use Rattle.pricing.specs.declared.figures.Activation.{Activation}
 use Rattle.pricing.specs.declared.figures.Activations.{Activations}
@@ -7,8 +7,6 @@ use Rattle.pricing.specs.declared.figures.SystemFigures.{SystemFigures}
 use Rattle.description.specs.declared.draft.Draft.{Draft}
 use Rattle.description.specs.declared.draft.Direction.{Direction}
 use Rattle.description.specs.declared.draft.Quarter.{Quarter}
-use Rattle.description.specs.declared.draft.Reserves.{Reserves}
-use Rattle.description.specs.declared.draft.Reserves.TheVariants.{Idle, One, Two, Three}
 use Rattle.description.specs.declared.entry.Entry.{Entry}
 use Rattle.description.specs.declared.entry.Entry.TheVariants.{ImbalanceKwh, IndexPrice, Downward, Upward, OfGroup}
 use Rattle.description.specs.declared.entry.DirectionEntry.{DirectionEntry}
@@ -22,16 +20,14 @@ use Rattle.description.specs.Entries.{and_then, entry_of}
 use Rattle.description.specs.Group.{given_once, no_group, group_after, group_from}
 
 -- activations in one direction, which may be given three times
-abbrev pub one_more : Reserves → Activation → Result Reserves Fault
-one_more Idle next = Ok (One next)
-one_more (One first) next = Ok (Two first next)
-one_more (Two first second) next = Ok (Three first second next)
-one_more (Three first second third) next = Err Repeated
+abbrev pub one_more : List Activation → Activation → Result (List Activation) Fault
+one_more given next = cond (nat_lt (length given) 3) (Ok (given ++ (next ∷ []))) (Err Repeated)
 
 -- what is known of a direction after an entry for it
 abbrev pub direction_after : Direction → DirectionEntry → Result Direction Fault
 direction_after known (Bid price) = and_then (given_once known.bid price) (λ bid. Ok (record { bid = bid; reserves = known.reserves }))
-direction_after known (Activated next) = and_then (one_more known.reserves next) (λ reserves. Ok (record { bid = known.bid; reserves = reserves }))
+direction_after known (Activated next) =
+    and_then (one_more known.reserves.items next) (λ given. Ok (record { bid = known.bid; reserves = record { items = given } }))
 
 -- what is known after an entry
 abbrev pub draft_after : Draft → Entry → Result Draft Fault
@@ -61,7 +57,7 @@ draft_after_line draft line = and_then (entry_of line) (λ entry. draft_with dra
 
 -- before the first line nothing is known
 abbrev pub nothing_given : Direction
-nothing_given = record { bid = None; reserves = Idle }
+nothing_given = record { bid = None; reserves = record { items = [] } }
 
 abbrev pub nothing_known : Draft
 nothing_known = record { imbalance_kwh = None; index = None; downward = nothing_given; upward = nothing_given; group = no_group }
@@ -71,14 +67,11 @@ nothing_known = record { imbalance_kwh = None; index = None; downward = nothing_
 abbrev pub not_activated : Activation
 not_activated = record { kwh = 0; price = pos 0 }
 
-abbrev pub in_order : Activation → Activation → Activation → Activations
-in_order first second third = record { automatic = first; manual = second; replacement = third }
+abbrev pub given_at : List Activation → ℕ → Activation
+given_at given number = slice_index_or given number not_activated
 
-abbrev pub activations_of : Reserves → Activations
-activations_of Idle = in_order not_activated not_activated not_activated
-activations_of (One first) = in_order first not_activated not_activated
-activations_of (Two first second) = in_order first second not_activated
-activations_of (Three first second third) = in_order first second third
+abbrev pub activations_of : List Activation → Activations
+activations_of given = record { automatic = given_at given 0; manual = given_at given 1; replacement = given_at given 2 }
 
 -- the figures, once there are no more lines
 abbrev pub figures_from : Draft → Result SystemFigures Problem
@@ -87,8 +80,8 @@ figures_from draft =
     and_then (ok_or draft.index NoIndex) (λ index.
     Ok (record {
       imbalance_kwh = kwh;
-      downward = activations_of draft.downward.reserves;
-      upward = activations_of draft.upward.reserves;
+      downward = activations_of draft.downward.reserves.items;
+      upward = activations_of draft.upward.reserves.items;
       downward_bid = draft.downward.bid;
       upward_bid = draft.upward.bid;
       index = index;

@@ -1,21 +1,25 @@
 // What the lines of a description have entered so far.
 ghost use Rattle.std.specs.Prelude.{◌≡◌};
-ghost use Rattle.description.specs.Figures.{one_more, direction_after, draft_after, draft_after_line, activations_of, figures_from, quarter_from};
+ghost use Rattle.description.specs.Figures.{given_at, direction_after, draft_after, draft_after_line, at_line, activations_of, figures_from, quarter_from};
 
 use crate::entry::{DirectionEntry, Entry, read_line};
 use crate::group::{Group, GroupDraft};
 use crate::once;
 use crate::problem::{Fault, Problem};
+use arrayvec::ArrayVec;
 use pricing::{Activation, Activations, SystemFigures};
 
+// The kinds of reserve, and so the most activations of one direction.
+const RESERVES: usize = 3;
+
 // A quarter of an hour: the system's figures, and the group where one is listed.
-#[derive(Clone, Copy)]
+#[derive(Clone, Drop)]
 pub struct Quarter {
     pub figures: SystemFigures,
     pub group: Option<Group>,
 }
 
-#[derive(Clone, Copy)]
+#[derive(Default, Drop)]
 pub struct Draft {
     imbalance_kwh: Option<i32>,
     index: Option<i32>,
@@ -24,112 +28,60 @@ pub struct Draft {
     group: GroupDraft,
 }
 
-// One direction.
-#[derive(Clone, Copy)]
+// One direction, and its activations in the order in which they were given.
+#[derive(Default, Drop)]
 struct Direction {
     bid: Option<i32>,
-    reserves: Reserves,
+    reserves: ArrayVec<Activation, RESERVES>,
 }
 
-// The activations of a direction, in the order in which they were given.
-#[derive(Clone, Copy)]
-enum Reserves {
-    Idle,
-    One(Activation),
-    Two(Activation, Activation),
-    Three(Activation, Activation, Activation),
-}
-
-const NOT_ACTIVATED: Activation = Activation { kwh: 0, price: 0 };
-
-impl Reserves {
-    fn with(self, next: Activation) -> Result<Reserves, Fault>
-        ensures { result ≡ one_more self next }
-    {
-        match self {
-            Reserves::Idle => Ok(Reserves::One(next)),
-            Reserves::One(first) => Ok(Reserves::Two(first, next)),
-            Reserves::Two(first, second) => Ok(Reserves::Three(first, second, next)),
-            Reserves::Three(..) => Err(Fault::Repeated),
-        }
-    }
-
-    fn activations(self) -> Activations
-        ensures { result ≡ activations_of self }
-    {
-        let (automatic, manual, replacement) = match self {
-            Reserves::Idle => (NOT_ACTIVATED, NOT_ACTIVATED, NOT_ACTIVATED),
-            Reserves::One(first) => (first, NOT_ACTIVATED, NOT_ACTIVATED),
-            Reserves::Two(first, second) => (first, second, NOT_ACTIVATED),
-            Reserves::Three(first, second, third) => (first, second, third),
-        };
-        Activations {
-            automatic,
-            manual,
-            replacement,
-        }
-    }
+fn given(reserves: &[Activation], number: usize) -> Activation
+    ensures { result ≡ given_at reserves.now number }
+{
+    reserves.get(number).copied().unwrap_or_default()
 }
 
 impl Direction {
-    const EMPTY: Direction = Direction {
-        bid: None,
-        reserves: Reserves::Idle,
-    };
-
-    fn with(self, entry: DirectionEntry) -> Result<Direction, Fault>
+    fn with(mut self, entry: DirectionEntry) -> Result<Direction, Fault>
         ensures { result ≡ direction_after self entry }
     {
         match entry {
-            DirectionEntry::Bid(price) => Ok(Direction {
-                bid: once::given(self.bid, price)?,
-                ..self
-            }),
-            DirectionEntry::Activated(activation) => Ok(Direction {
-                reserves: self.reserves.with(activation)?,
-                ..self
-            }),
+            DirectionEntry::Bid(price) => self.bid = once::given(self.bid, price)?,
+            DirectionEntry::Activated(activation) => self
+                .reserves
+                .try_push(activation)
+                .map_err(|_| Fault::Repeated)?,
+        }
+        Ok(self)
+    }
+
+    fn activations(&self) -> Activations
+        ensures { result ≡ activations_of self.now.reserves.items }
+    {
+        let reserves = self.reserves.as_slice();
+        Activations {
+            automatic: given(reserves, 0),
+            manual: given(reserves, 1),
+            replacement: given(reserves, 2),
         }
     }
 }
 
 impl Draft {
-    pub const EMPTY: Draft = Draft {
-        imbalance_kwh: None,
-        index: None,
-        downward: Direction::EMPTY,
-        upward: Direction::EMPTY,
-        group: GroupDraft::EMPTY,
-    };
-
-    fn with(self, entry: Entry) -> Result<Draft, Fault>
+    fn with(mut self, entry: Entry) -> Result<Draft, Fault>
         ensures { result ≡ draft_after self entry }
     {
         match entry {
-            Entry::ImbalanceKwh(kwh) => Ok(Draft {
-                imbalance_kwh: once::given(self.imbalance_kwh, kwh)?,
-                ..self
-            }),
-            Entry::IndexPrice(price) => Ok(Draft {
-                index: once::given(self.index, price)?,
-                ..self
-            }),
-            Entry::Downward(entry) => Ok(Draft {
-                downward: self.downward.with(entry)?,
-                ..self
-            }),
-            Entry::Upward(entry) => Ok(Draft {
-                upward: self.upward.with(entry)?,
-                ..self
-            }),
-            Entry::OfGroup(entry) => Ok(Draft {
-                group: self.group.with(entry)?,
-                ..self
-            }),
+            Entry::ImbalanceKwh(kwh) => self.imbalance_kwh = once::given(self.imbalance_kwh, kwh)?,
+            Entry::IndexPrice(price) => self.index = once::given(self.index, price)?,
+            Entry::Downward(entry) => self.downward = self.downward.with(entry)?,
+            Entry::Upward(entry) => self.upward = self.upward.with(entry)?,
+            Entry::OfGroup(entry) => self.group = self.group.with(entry)?,
         }
+        Ok(self)
     }
 
-    pub(crate) fn with_line(self, line: &[u8]) -> Result<Draft, Fault>
+    fn with_entry_of(self, line: &[u8]) -> Result<Draft, Fault>
         ensures { result ≡ draft_after_line self line.now }
     {
         match read_line(line)? {
@@ -138,15 +90,22 @@ impl Draft {
         }
     }
 
-    fn figures(self) -> Result<SystemFigures, Problem>
-        ensures { result ≡ figures_from self }
+    pub(crate) fn with_line(self, number: usize, line: &[u8]) -> Result<Draft, Problem>
+        ensures { result ≡ at_line number (draft_after_line self line.now) }
+    {
+        self.with_entry_of(line)
+            .map_err(|fault| Problem::Line { number, fault })
+    }
+
+    fn figures(&self) -> Result<SystemFigures, Problem>
+        ensures { result ≡ figures_from self.now }
     {
         let imbalance_kwh = self.imbalance_kwh.ok_or(Problem::NoImbalance)?;
         let index = self.index.ok_or(Problem::NoIndex)?;
         Ok(SystemFigures {
             imbalance_kwh,
-            downward: self.downward.reserves.activations(),
-            upward: self.upward.reserves.activations(),
+            downward: self.downward.activations(),
+            upward: self.upward.activations(),
             downward_bid: self.downward.bid,
             upward_bid: self.upward.bid,
             index,

@@ -1,6 +1,6 @@
 // What a line enters.
 ghost use Rattle.std.specs.Prelude.{◌≡◌};
-ghost use Rattle.description.specs.Entries.{number_in, energy_in, at_end, lone_number, activation_in, position_in, entry_for, is_ignored, entry_of};
+ghost use Rattle.description.specs.Entries.{expected, number_in, energy_in, at_end, lone_number, activation_in, position_in, entry_for, is_ignored, entry_of};
 
 use crate::keyword::Keyword;
 use crate::numbers::{signed, unsigned};
@@ -32,22 +32,26 @@ pub enum GroupEntry {
     Member(Position),
 }
 
-fn read_number(word: &[u8]) -> Result<i32, Fault>
-    ensures { result ≡ number_in word.now }
+// The number that was read of a word; an empty word is a missing one, and of any other this is the fault.
+fn expected<N: Drop>(word: &[u8], number: Option<N>, fault: Fault) -> Result<N, Fault>
+    ensures { result ≡ expected word.now number fault }
 {
     if word.is_empty() {
         return Err(Fault::NumberMissing);
     }
-    signed(word).ok_or(Fault::NotNumber)
+    number.ok_or(fault)
+}
+
+fn read_number(word: &[u8]) -> Result<i32, Fault>
+    ensures { result ≡ number_in word.now }
+{
+    expected(word, signed(word), Fault::NotNumber)
 }
 
 fn read_energy(word: &[u8]) -> Result<u32, Fault>
     ensures { result ≡ energy_in word.now }
 {
-    if word.is_empty() {
-        return Err(Fault::NumberMissing);
-    }
-    unsigned(word).ok_or(Fault::NotEnergy)
+    expected(word, unsigned(word), Fault::NotEnergy)
 }
 
 fn expect_end(rest: &[u8]) -> Result<(), Fault>
@@ -81,6 +85,7 @@ fn read_activation(rest: &[u8]) -> Result<Activation, Fault>
     Ok(Activation { kwh, price })
 }
 
+// Not one function with `read_activation`: the second words differ in type, and one closure more would make each call longer.
 fn read_position(role: Role, rest: &[u8]) -> Result<Position, Fault>
     ensures { result ≡ position_in role rest.now }
 {
@@ -122,10 +127,7 @@ fn read_after(keyword: Keyword, rest: &[u8]) -> Result<Entry, Fault>
 fn ignored(word: &[u8]) -> bool
     ensures { result ≡ is_ignored word.now }
 {
-    match word {
-        [] => true,
-        [first, ..] => *first == b'#',
-    }
+    matches!(word, [] | [b'#', ..])
 }
 
 // None where the line is ignored.

@@ -30,6 +30,7 @@ impl Fault {
     }
 }
 
+// Printed by hand, since what a derive prints is promised by no clause.
 impl fmt::Display for Fault {
     ghost output = { λ fault. Some (fault_text fault) };
 
@@ -48,6 +49,7 @@ pub enum Problem {
     NoInternalPrice,
 }
 
+// Printed by hand for the same reason.
 impl fmt::Display for Problem {
     ghost output = { λ problem. Some (problem_text problem) };
 

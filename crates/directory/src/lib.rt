@@ -1,13 +1,12 @@
 // The member directory: which member a contract number belongs to, in memory that is handed over.
 #![tactic(auto)]
 
-ghost use Rattle.std.specs.Prelude.{◌≡◌, false, length, is_ok, nat_eq};
+ghost use Rattle.std.specs.Prelude.{◌≡◌, false, length, is_ok};
 ghost use Rattle.keyed.specs.Contents.{new_list};
-ghost use Rattle.keyed.specs.Memory.{held};
-ghost use Rattle.directory.specs.Entering.{directory_check, enter_verdict, enter_outcome};
+ghost use Rattle.directory.specs.Entering.{entries_of, directory_check, enter_verdict, enter_outcome};
 
 use keyed::{Entry, KeyedList, fits};
-use refusal::{Layer, NO_MEMBER, NO_PERIOD, Reason, Refusal};
+use refusal::{Concern, Layer, NO_MEMBER, Reason, Refusal};
 
 // Contract numbers and the members that were entered last under them.
 #[derive(Drop)]
@@ -28,7 +27,7 @@ impl<'a> Directory<'a> {
 
     // An empty directory. Nothing is written; where the check refuses, it has no room.
     pub fn new(memory: &'a mut [Entry<u32, u8>]) -> Directory<'a>
-        ensures made { held result.members.memory.now nat_eq (λ number. number) result.members.used ≡ new_list (length memory.old) }
+        ensures made { entries_of result ≡ new_list (length memory.old) }
         ensures memory { result.members.memory.now ≡ memory.old }
         ensures lent { result.members.memory.ghost_name ≡ memory.entry.ghost_name }
     {
@@ -41,40 +40,30 @@ impl<'a> Directory<'a> {
 impl Directory<'_> {
     // The member of a contract number.
     pub fn find(&self, contract: u32) -> Option<u8>
-        ensures { result ≡ (held self.now.members.memory.now nat_eq (λ number. number) self.now.members.used).under contract }
+        ensures { result ≡ (entries_of self.now).under contract }
     {
         self.members.find(&contract)
     }
 
     // How many new contract numbers may still be entered.
     pub fn spare(&self) -> usize
-        ensures { result ≡ (held self.now.members.memory.now nat_eq (λ number. number) self.now.members.used).spare }
+        ensures { result ≡ (entries_of self.now).spare }
     {
         self.members.spare()
     }
 
     // Enters a contract number: its second entry replaces the first.
     pub fn enter(&mut self, contract: u32, member: u8) -> Result<(), Refusal>
-        ensures answer { result ≡ enter_verdict (held self.old.members.memory.now nat_eq (λ number. number) self.old.members.used) contract member }
-        ensures after { held self.new.members.memory.now nat_eq (λ number. number) self.new.members.used ≡ enter_outcome (held self.old.members.memory.now nat_eq (λ number. number) self.old.members.used) contract member }
+        ensures answer { result ≡ enter_verdict (entries_of self.old) contract member }
+        ensures after { entries_of self.new ≡ enter_outcome (entries_of self.old) contract member }
         ensures refused { is_ok result ≡ false → self.new.members.memory.now ≡ self.old.members.memory.now }
         ensures lent { self.new.members.memory.ghost_name ≡ self.old.members.memory.ghost_name }
     {
-        let no_period = usize::from(NO_PERIOD);
+        let whom = Concern::of_member(usize::from(member));
         if member >= NO_MEMBER {
-            return Err(Refusal::concerning(
-                Reason::NoSuchMember,
-                Layer::Directory,
-                usize::from(member),
-                no_period,
-            ));
+            return Err(whom.refused(Reason::NoSuchMember, Layer::Directory));
         }
-        let full = Refusal::concerning(
-            Reason::Full,
-            Layer::Directory,
-            usize::from(member),
-            no_period,
-        );
+        let full = whom.refused(Reason::Full, Layer::Directory);
         self.members.put(contract, member, full)
     }
 }

@@ -1,11 +1,9 @@
 -- What a book holds after a list of postings.
-use Rattle.std.proofs.Common.{◌≡◌, ℕ, ◌+◌, ◌<◌, Bool, true, false, cond, ◌&&◌, eqb, List, [], ◌∷◌, ◌++◌, length, get_or, drop, is_ok, Some, Result, sym, refl, ap, ◌∙◌, subst, arith}
-use Rattle.std.proofs.lemmas.List.{at_drop_more}
+use Rattle.std.proofs.Common.{◌≡◌, ℕ, Bool, true, false, cond, ◌&&◌, eqb, List, [], ◌∷◌, ◌++◌, is_ok, Some, sym, refl, ap, ◌∙◌, subst, arith}
 use Rattle.std.proofs.lemmas.Bool.{cond-true, cond-false, eq-eqb, and_from}
-use Rattle.refusal.specs.declared.refused.Refusal.{Refusal}
 use Rattle.energy.specs.declared.bookings.Booking.{Booking}
 use Rattle.energy.specs.Meaning.{Meaning, posted, with_cell}
-use Rattle.energy.specs.Bookings.{verdict_on, after_one, after_all, accepted, answers, is_at, Elsewhere, KeepsTheLast, Alike}
+use Rattle.energy.specs.Bookings.{verdict_on, after_one, after_all, accepted, is_at, Elsewhere, KeepsTheLast}
 
 -- a posting that is accepted, and one that is refused
 module _ (m : Meaning) (b : Booking) where
@@ -61,28 +59,3 @@ keeps_the_last m bookings = record {
   latest = λ earlier later b e apart. latest_of m bookings earlier later b e apart;
   untouched = λ line period apart. untouched_by m bookings line period apart;
 }
-
-pub alike : (one other one_after other_after : Meaning) (bookings : List Booking) → one_after ≡ after_all one bookings → other_after ≡ after_all other bookings
-    → one ≡ other → Alike one other one_after other_after bookings
-alike one other one_after other_after bookings e f same =
-    record { same_answers = ap (λ m. answers m bookings) same; same_after = e ∙ ap (λ m. after_all m bookings) same ∙ sym f }
-
--- one posting of a list more
-module _ (m m' : Meaning) (bookings : List Booking) (i count count' : ℕ) (r : Result (Unit {0}) Refusal) (d : Booking) (within : i < length bookings)
-    (answer : r ≡ verdict_on m (get_or bookings i d)) (after : m' ≡ after_one m (get_or bookings i d)) (counted : count' ≡ cond (is_ok r) (count + 1) count) where
-  pub after_more : after_all m' (drop (i + 1) bookings) ≡ after_all m (drop i bookings)
-  after_more = ap (λ n. after_all n (drop (i + 1) bookings)) after ∙ sym (at_drop_more (after_all m) bookings i d within)
-
-  pub count_more : count' + length (accepted m' (drop (i + 1) bookings)) ≡ count + length (accepted m (drop i bookings))
-  count_more =
-      ap (λ n. count' + length (accepted n (drop (i + 1) bookings))) after
-      ∙ by (is_ok r) counted (ap is_ok answer)
-      ∙ ap (λ l. count + length l) (sym (at_drop_more (accepted m) bookings i d within))
-    where
-      rest : List Booking
-      rest = accepted (after_one m (get_or bookings i d)) (drop (i + 1) bookings)
-
-      by : (t : Bool) → count' ≡ cond t (count + 1) count → t ≡ is_ok (verdict_on m (get_or bookings i d))
-          → count' + length rest ≡ count + length (cond (is_ok (verdict_on m (get_or bookings i d))) (get_or bookings i d ∷ rest) rest)
-      by true e ok = rw (← ok) (omega arith)
-      by false e ok = rw (← ok) (omega arith)

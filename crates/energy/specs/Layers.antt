@@ -4,7 +4,7 @@ use Rattle.charging.specs.Limits.{energy_limit}
 use Rattle.refusal.specs.declared.layer.Layer.TheVariants.{Ceiling, Seal}
 use Rattle.refusal.specs.declared.reason.Reason.TheVariants.{FigureOutOfRange, NoSuchLine, NoSuchPeriod}
 use Rattle.refusal.specs.declared.refused.Refusal.{Refusal}
-use Rattle.refusal.specs.Numbers.{at_cell, naming_nobody, no_period}
+use Rattle.refusal.specs.Numbers.{naming_nobody, of_member, refused}
 use Rattle.energy.specs.Limits.{most_lines, most_days, periods_per_day}
 use Rattle.energy.specs.Meaning.{Meaning, inside}
 
@@ -26,11 +26,11 @@ abbrev pub over_own : List ℕ → Meaning → ℕ → ℕ → ℕ → Bool
 over_own own m line period kwh =
     (inside m line period && not (m.sealed line period)) && (nat_le kwh (m.ceiling line) && nat_lt (slice_index own line) kwh)
 
--- the answer to the setting of a ceiling
+-- the answer to the setting of a ceiling; lines 2i and 2i + 1 are those of member i
 abbrev pub ceiling_verdict : ℕ → ℕ → Result (Unit {0}) Refusal
 ceiling_verdict line kwh =
-    cond (nat_lt energy_limit kwh) (Err (at_cell FigureOutOfRange Ceiling line no_period))
-    (cond (nat_le most_lines line) (Err (at_cell NoSuchLine Ceiling line no_period))
+    cond (nat_lt energy_limit kwh) (Err (refused (of_member (line / 2)) FigureOutOfRange Ceiling))
+    (cond (nat_le most_lines line) (Err (refused (of_member (line / 2)) NoSuchLine Ceiling))
     (Ok tt))
 
 -- A set of days is a number whose bit i is day i.

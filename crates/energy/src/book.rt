@@ -5,11 +5,9 @@ ghost use Rattle.energy.specs.Meaning.{Meaning, Lawful, ceiling_told, seal_told,
 use refusal::Refusal;
 
 // Line 2i holds the schedules of member i, line 2i + 1 his readings; a cell is a line in a period.
+// Line and period stand apart, as row and column of a table do: a pair of them would say no more than the two.
 pub trait Book {
     ghost meaning: { Self → Meaning };
-
-    // The proof that what the book means is lawful.
-    ghost lawful: { (book : Self) → Lawful (meaning book) };
 
     fn lines(&self) -> usize
         ensures { result ≡ (meaning self.now).lines };
@@ -37,4 +35,7 @@ pub trait Book {
     fn post(&mut self, line: usize, period: usize, kwh: u32) -> Result<(), Refusal>
         ensures answer { result ≡ book_verdict (meaning self.old) line period kwh }
         ensures after { meaning self.new ≡ book_outcome (meaning self.old) line period kwh };
+
+    // What every book owes.
+    ghost lawful: { (book : Self) → Lawful (meaning book) };
 }

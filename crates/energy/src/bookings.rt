@@ -11,28 +11,19 @@ pub struct Booking {
     pub kwh: u32,
 }
 
-// Posts a list in its order and counts what was accepted.
-fn post_each<B: Book>(book: &mut B, bookings: &[Booking]) -> usize
-    ensures count { result ≡ length (accepted (B.Book.meaning book.old) bookings.now) }
-    ensures after { B.Book.meaning book.new ≡ after_all (B.Book.meaning book.old) bookings.now }
-{
-    let mut count = 0;
-    for booking in bookings {
-        let accepted = book.post(booking.line, booking.period, booking.kwh).is_ok();
-        if accepted {
-            count += 1;
-        }
-    }
-    count
-}
-
 // Posts a list in its order, whatever is refused of it, and gives how many were accepted.
 pub fn post_all<B: Book>(book: &mut B, bookings: &[Booking]) -> usize
     ensures count { result ≡ length (accepted (B.Book.meaning book.old) bookings.now) }
     ensures after { B.Book.meaning book.new ≡ after_all (B.Book.meaning book.old) bookings.now }
     ensures last { KeepsTheLast (B.Book.meaning book.old) (accepted (B.Book.meaning book.old) bookings.now) (B.Book.meaning book.new) }
 {
-    post_each(book, bookings)
+    let mut count = 0;
+    for booking in bookings {
+        if book.post(booking.line, booking.period, booking.kwh).is_ok() {
+            count += 1;
+        }
+    }
+    count
 }
 
 // Posts the same list to two books of any two kinds, and gives how many each accepted.

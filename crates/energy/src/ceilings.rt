@@ -6,8 +6,9 @@ ghost use Rattle.energy.specs.Lawfulness.{ceilings_lawful};
 use crate::book::Book;
 use crate::limits::MOST_LINES;
 use charging::ENERGY_LIMIT_KWH;
-use refusal::{Layer, NO_PERIOD, Reason, Refusal};
+use refusal::{Concern, Layer, Reason, Refusal};
 
+// It and the layer of seals pass on the same calls; a layer over a trait of both would need more clauses than these are lines.
 #[derive(Drop)]
 pub struct Ceilings<B> {
     below: B,
@@ -40,12 +41,12 @@ impl<B: Book> Ceilings<B> {
         ensures own { self.new.own ≡ (if is_ok (ceiling_verdict line kwh) then slice_set self.old.own line kwh else self.old.own) }
         ensures below { self.new.below ≡ self.old.below }
     {
-        let no_period = usize::from(NO_PERIOD);
+        let whom = Concern::of_member(line / 2);
         if kwh > ENERGY_LIMIT_KWH {
-            return Err(Refusal::at_cell(Reason::FigureOutOfRange, Layer::Ceiling, line, no_period));
+            return Err(whom.refused(Reason::FigureOutOfRange, Layer::Ceiling));
         }
         if line >= MOST_LINES {
-            return Err(Refusal::at_cell(Reason::NoSuchLine, Layer::Ceiling, line, no_period));
+            return Err(whom.refused(Reason::NoSuchLine, Layer::Ceiling));
         }
         self.own[line] = kwh;
         Ok(())
@@ -92,10 +93,12 @@ impl<B: Book> Book for Ceilings<B> {
         self.below.spare()
     }
 
+    #[tactic(auto, using(crate::proofs::Layering::ceilings_verdict, crate::proofs::Layering::ceilings_outcome))]
     fn post(&mut self, line: usize, period: usize, kwh: u32) -> Result<(), Refusal> {
         if self.over_own(line, period, kwh) {
             return Err(Refusal::at_cell(Reason::AboveCeiling, Layer::Ceiling, line, period));
         }
+        // What the book below refuses is passed up whole.
         self.below.post(line, period, kwh)?;
         Ok(())
     }

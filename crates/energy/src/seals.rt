@@ -15,14 +15,6 @@ pub struct Seals<B> {
     days: u32,
 }
 
-// Whether the day of a period is in a set of days.
-fn covers(days: u32, period: usize) -> bool
-    requires { period < most_periods }
-    ensures { result ≡ day_in days (period / periods_per_day) }
-{
-    (days >> (period / PERIODS_PER_DAY)) % 2 == 1
-}
-
 impl<B: Book> Seals<B> {
     // A layer that seals no day.
     pub fn new(below: B) -> Seals<B>
@@ -61,14 +53,19 @@ impl<B: Book> Seals<B> {
         self.days.count_ones()
     }
 
+    // Whether this layer seals the day of a period.
+    fn covers(&self, period: usize) -> bool
+        requires { period < most_periods }
+        ensures { result ≡ day_in self.now.days (period / periods_per_day) }
+    {
+        (self.days >> (period / PERIODS_PER_DAY)) % 2 == 1
+    }
+
     // Whether only this layer's own seal is in the way of a posting.
     fn sealed_own(&self, line: usize, period: usize) -> bool
         ensures { result ≡ sealed_own self.now.days (B.Book.meaning self.now.below) line period }
     {
-        match self.below.sealed(line, period) {
-            Some(false) => covers(self.days, period),
-            _ => false,
-        }
+        self.below.sealed(line, period) == Some(false) && self.covers(period)
     }
 }
 
@@ -95,17 +92,19 @@ impl<B: Book> Book for Seals<B> {
 
     fn sealed(&self, line: usize, period: usize) -> Option<bool> {
         let below = self.below.sealed(line, period)?;
-        Some(below || covers(self.days, period))
+        Some(below || self.covers(period))
     }
 
     fn spare(&self) -> usize {
         self.below.spare()
     }
 
+    #[tactic(auto, using(crate::proofs::Layering::seals_verdict))]
     fn post(&mut self, line: usize, period: usize, kwh: u32) -> Result<(), Refusal> {
         if self.sealed_own(line, period) {
             return Err(Refusal::at_cell(Reason::Sealed, Layer::Seal, line, period));
         }
+        // What the book below refuses is passed up whole.
         self.below.post(line, period, kwh)?;
         Ok(())
     }

@@ -1,1 +1,2 @@
 pub mod MemberLines
+pub mod IfAny

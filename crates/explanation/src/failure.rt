@@ -16,6 +16,7 @@ pub enum Failure {
     Refused(Refusal),
 }
 
+// Converted and printed by hand, since what a derive writes is promised by no clause.
 impl From<Problem> for Failure {
     ghost from_gives = { λ problem r. r ≡ Unreadable problem };
 

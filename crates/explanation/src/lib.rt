@@ -4,6 +4,7 @@
 
 mod failure;
 mod group;
+mod if_any;
 mod report;
 mod sheet_text;
 mod text;

@@ -1,23 +1,21 @@
 // The report on a price, part by part.
 ghost use Rattle.std.specs.Prelude.{◌≡◌, Some};
-ghost use Rattle.explanation.specs.Words.{rounded_text, fraction_text, side_line, origin_words, base_line, index_line, scaled_line, stage_words, stage_line, price_line, derivation_text, report_text};
+ghost use Rattle.explanation.specs.Words.{rounding_text, fraction_text, side_line, origin_words, base_line, index_line, scaling_text, stage_words, stage_line, price_line, derivation_text, report_text};
 
 use crate::group::GroupSheet;
-use crate::sheet_text::SheetPart;
+use crate::if_any::IfAny;
 use pricing::{Base, Derivation, Fraction, Origin, Side, Stage};
 use std::fmt;
 
 #[derive(Clone, Copy)]
-struct Rounded(Option<i64>);
+struct Rounded(i64);
 
 impl fmt::Display for Rounded {
-    ghost output = { λ r. Some (rounded_text r.0) };
+    ghost output = { λ r. Some (rounding_text r.0) };
 
     fn fmt<W: fmt::Write>(&self, f: &mut fmt::Formatter<W>) -> fmt::Result {
-        match self.0 {
-            Some(whole) => write!(f, ", rounded {whole}"),
-            None => write!(f, ""),
-        }
+        let whole = self.0;
+        write!(f, ", rounded {whole}")
     }
 }
 
@@ -32,7 +30,7 @@ impl fmt::Display for Exact {
             numerator,
             denominator,
         } = self.0;
-        let rounded = Rounded(self.0.rounded());
+        let rounded = IfAny(self.0.rounded().map(Rounded));
         write!(f, "{numerator}/{denominator}{rounded}")
     }
 }
@@ -98,19 +96,14 @@ impl fmt::Display for IndexLine {
 }
 
 #[derive(Clone, Copy)]
-struct ScaledLine(Option<Fraction>);
+struct ScaledLine(Fraction);
 
 impl fmt::Display for ScaledLine {
-    ghost output = { λ l. Some (scaled_line l.0) };
+    ghost output = { λ l. Some (scaling_text l.0) };
 
     fn fmt<W: fmt::Write>(&self, f: &mut fmt::Formatter<W>) -> fmt::Result {
-        match self.0 {
-            Some(fraction) => {
-                let value = Exact(fraction);
-                write!(f, "Base scaled by the imbalance: {value}\n")
-            }
-            None => write!(f, ""),
-        }
+        let value = Exact(self.0);
+        write!(f, "Base scaled by the imbalance: {value}\n")
     }
 }
 
@@ -174,7 +167,7 @@ impl fmt::Display for PricePart {
                 let side_line = SideLine(side, imbalance_kwh);
                 let base = BaseLine(side, candidates.base);
                 let index = IndexLine(side, candidates.index);
-                let scaled = ScaledLine(candidates.scaled);
+                let scaled = IfAny(candidates.scaled.map(ScaledLine));
                 let decided = StageLine(stage);
                 let price = PriceLine(price);
                 write!(f, "{side_line}{base}{index}{scaled}{decided}{price}")
@@ -184,7 +177,7 @@ impl fmt::Display for PricePart {
 }
 
 // How the price of a quarter of an hour came about, and the sheet of its group, where one is listed.
-#[derive(Clone, Copy)]
+#[derive(Clone, Drop)]
 pub struct Report {
     pub derivation: Derivation,
     pub sheet: Option<GroupSheet>,
@@ -195,7 +188,7 @@ impl fmt::Display for Report {
 
     fn fmt<W: fmt::Write>(&self, f: &mut fmt::Formatter<W>) -> fmt::Result {
         let price = PricePart(self.derivation);
-        let sheet = SheetPart(self.sheet);
+        let sheet = IfAny(self.sheet.as_ref());
         write!(f, "{price}{sheet}")
     }
 }

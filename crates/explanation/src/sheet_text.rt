@@ -1,30 +1,24 @@
 // The sheet of a group as text, part by part.
-ghost use Rattle.std.specs.Prelude.{◌≡◌, Some};
-ghost use Rattle.explanation.specs.Words.{amounts, member_line, member_lines, total_line, internal_line, drawn_lines, sheet_text, sheet_text_if_any};
+ghost use Rattle.std.specs.Prelude.{Some};
+ghost use Rattle.explanation.specs.Words.{amounts, member_line, member_lines, total_line, internal_line, sheet_text};
 
 use crate::group::GroupSheet;
-use sharing::MOST_MEMBERS;
 use sheet::{SheetLine, Totals, totals};
 use std::fmt;
 
 #[derive(Clone, Copy)]
-struct Amounts {
-    imbalance_kwh: i128,
-    netted_kwh: i128,
-    outside_kwh: i128,
-    money: i128,
-}
+struct Amounts(Totals);
 
 impl fmt::Display for Amounts {
-    ghost output = { λ a. Some (amounts a.imbalance_kwh a.netted_kwh a.outside_kwh a.money) };
+    ghost output = { λ a. Some (amounts a.0) };
 
     fn fmt<W: fmt::Write>(&self, f: &mut fmt::Formatter<W>) -> fmt::Result {
-        let Amounts {
+        let Totals {
             imbalance_kwh,
             netted_kwh,
             outside_kwh,
             money,
-        } = *self;
+        } = self.0;
         write!(
             f,
             ": imbalance {imbalance_kwh}, netted {netted_kwh}, outside {outside_kwh}, money {money}\n"
@@ -40,12 +34,7 @@ impl fmt::Display for MemberLine {
 
     fn fmt<W: fmt::Write>(&self, f: &mut fmt::Formatter<W>) -> fmt::Result {
         let number = self.0;
-        let amounts = Amounts {
-            imbalance_kwh: i128::from(self.1.imbalance_kwh),
-            netted_kwh: i128::from(self.1.netted_kwh),
-            outside_kwh: i128::from(self.1.outside_kwh),
-            money: i128::from(self.1.money),
-        };
+        let amounts = Amounts(Totals::from(self.1));
         write!(f, "Member {number}{amounts}")
     }
 }
@@ -73,12 +62,7 @@ impl fmt::Display for TotalLine {
     ghost output = { λ l. Some (total_line l.0) };
 
     fn fmt<W: fmt::Write>(&self, f: &mut fmt::Formatter<W>) -> fmt::Result {
-        let amounts = Amounts {
-            imbalance_kwh: self.0.imbalance_kwh,
-            netted_kwh: self.0.netted_kwh,
-            outside_kwh: self.0.outside_kwh,
-            money: self.0.money,
-        };
+        let amounts = Amounts(self.0);
         write!(f, "Total{amounts}")
     }
 }
@@ -98,36 +82,13 @@ impl fmt::Display for InternalLine {
     }
 }
 
-impl GroupSheet {
-    fn drawn_lines(&self) -> &[SheetLine]
-        ensures { result.now ≡ drawn_lines self.now }
-    {
-        &self.lines[0..self.members.min(MOST_MEMBERS)]
-    }
-}
-
 impl fmt::Display for GroupSheet {
     ghost output = { λ s. Some (sheet_text s) };
 
     fn fmt<W: fmt::Write>(&self, f: &mut fmt::Formatter<W>) -> fmt::Result {
         let internal = InternalLine(self.internal_price);
-        let lines = MemberLines(self.drawn_lines());
-        let total = TotalLine(totals(self.drawn_lines()));
+        let lines = MemberLines(self.lines.as_slice());
+        let total = TotalLine(totals(self.lines.as_slice()));
         write!(f, "{internal}{lines}{total}")
-    }
-}
-
-// The sheet, where there is one.
-#[derive(Clone, Copy)]
-pub struct SheetPart(pub Option<GroupSheet>);
-
-impl fmt::Display for SheetPart {
-    ghost output = { λ p. Some (sheet_text_if_any p.0) };
-
-    fn fmt<W: fmt::Write>(&self, f: &mut fmt::Formatter<W>) -> fmt::Result {
-        match self.0 {
-            Some(sheet) => write!(f, "{sheet}"),
-            None => write!(f, ""),
-        }
     }
 }

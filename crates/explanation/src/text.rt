@@ -12,10 +12,10 @@ fn draw_if_any(group: &Option<Group>, price: i32) -> Result<Option<GroupSheet>, 
     ensures value { result ≡ sheet_if_any group.now price }
     ensures adds_up { IfOk result (λ sheet. IfSome sheet (SheetAddsUp price)) }
 {
-    match group {
-        Some(group) => Ok(Some(draw_sheet(group, price)?)),
-        None => Ok(None),
-    }
+    group
+        .as_ref()
+        .map(|group| draw_sheet(group, price))
+        .transpose()
 }
 
 // How the price of the quarter of an hour came about that the text describes, and what its group's members net and pay.

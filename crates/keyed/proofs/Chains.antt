@@ -1,6 +1,6 @@
 -- What a walk along a chain of entries comes to.
 use Rattle.std.proofs.Common.{◌≡◌, ℕ, zero, suc, ◌+◌, ◌<◌, ◌≤◌, Bool, true, false, cond, ltb, Some, None, Option, sym, refl, ap, ◌∙◌, add-one, arith}
-use Rattle.std.proofs.lemmas.Bool.{ltb-true, cond-true, cond-false, lt-ltb, le-ltb}
+use Rattle.std.proofs.lemmas.Bool.{ltb-true, cond-true, cond-false, lt-ltb}
 use Rattle.keyed.specs.Memory.{chained}
 
 pub never : (p : ℕ) → ◌≡◌ {A = Option ℕ} None (Some p) → ⊥
@@ -27,9 +27,6 @@ module _ (test : ℕ → Bool) (older : ℕ → ℕ) where
     chained_on other lower =
         enough (older place + 1) place (older place) (omega arith) lower
         ∙ rw add-one (sym (cond-false (test place) (Some place) _ other ∙ cond-true (ltb (older place) place) _ None (lt-ltb (older place) place lower)))
-
-    pub chained_ends : test place ≡ false → place ≤ older place → None ≡ chained test older (place + 1) place
-    chained_ends other past = rw add-one (sym (cond-false (test place) (Some place) _ other ∙ cond-false (ltb (older place) place) _ None (le-ltb (older place) place past)))
 
   -- a walk ends where the test holds, and never above its beginning
   pub chained_at : (n place p : ℕ) → chained test older n place ≡ Some p → (test p ≡ true) × (p ≤ place)

@@ -43,6 +43,9 @@ module _ {K X : Type 0} (same : K → K → Bool) (spread : K → ℕ) (es : Lis
           let low = beginning_used (newest_at es) (start_at es) used s h is in
           (there.0, omega (arith, there.1, low))
 
+  pub key_at : (q : K) (p : ℕ) (e : Entry K X) → p < length es → same q (get_or es p e).key ≡ is_of es same q p
+  key_at q p e within = field (λ x. same q x.key) es p e false within
+
   pub place_within : (q : K) (o : Option ℕ) → used ≤ length es → o ≡ place_of es same spread used q → IfSome o (λ p. p < length es)
   place_within q None filled is = tt
   place_within q (Some p) filled is = omega (arith, (found_at q (spread q % length es) p (sym is)).1)
@@ -116,12 +119,12 @@ module _ {K X : Type 0} (same : K → K → Bool) (exact : Exact same) (spread :
     module _ (room : used < length es) (b : ℕ) (b_is : b ≡ spread k % length es) (b_within : b < length es) (absent : place_of es same spread used k ≡ None)
         (es₁ es₂ : List (Entry K X))
         (written : es₁ ≡ set es used (record { key = k; content = x; start = b; older = unwrap_or (newest_from es used b) used; newest = (get_or es used d).newest }))
-        (linked : es₂ ≡ set es₁ b (with_newest (get_or es₁ b d) used)) where
+        (d₁ : Entry K X) (linked : es₂ ≡ set es₁ b (with_newest (get_or es₁ b d₁) used)) where
       new_entry : Entry K X
       new_entry = record { key = k; content = x; start = b; older = unwrap_or (newest_from es used b) used; newest = (get_or es used d).newest }
 
-      long : length es₂ ≡ length es
-      long = ap length linked ∙ length-set es₁ b (with_newest (get_or es₁ b d) used) ∙ ap length written ∙ length-set es used _
+      pub long : length es₂ ≡ length es
+      long = ap length linked ∙ length-set es₁ b (with_newest (get_or es₁ b d₁) used) ∙ ap length written ∙ length-set es used _
 
       b_within₁ : b < length es₁
       b_within₁ = let e = ap length written ∙ length-set es used _ in omega arith
@@ -131,7 +134,7 @@ module _ {K X : Type 0} (same : K → K → Bool) (exact : Exact same) (spread :
       unfolding new_entry
       part_written f kept =
           ap (map f) linked
-          ∙ field_kept f es₁ b (with_newest (get_or es₁ b d) used) d b_within₁ (kept (get_or es₁ b d) used)
+          ∙ field_kept f es₁ b (with_newest (get_or es₁ b d₁) used) d₁ b_within₁ (kept (get_or es₁ b d₁) used)
           ∙ ap (map f) written
           ∙ map-set f es used new_entry
 
@@ -139,7 +142,7 @@ module _ {K X : Type 0} (same : K → K → Bool) (exact : Exact same) (spread :
       unfolding new_entry
       newest_written =
           ap (map (λ e. e.newest)) linked
-          ∙ map-set (λ e. e.newest) es₁ b (with_newest (get_or es₁ b d) used)
+          ∙ map-set (λ e. e.newest) es₁ b (with_newest (get_or es₁ b d₁) used)
           ∙ ap (λ l. set l b used) (ap (map (λ e. e.newest)) written ∙ field_kept (λ e. e.newest) es used new_entry d room refl)
 
       place_appended : (q : K) → place_of es₂ same spread (used + 1) q ≡ cond (same q k) (Some used) (place_of es same spread used q)

@@ -1,3 +1,4 @@
 pub mod Keys
 pub mod Contents
 pub mod Memory
+pub mod Lists

@@ -1,8 +1,8 @@
 -- How the memory of a keyed list holds its entries, and how one is found in it.
-use Rattle.std.specs.Prelude.{◌≡◌, ℕ, zero, suc, ◌+◌, ◌-◌, ◌%◌, ◌≤◌, min, Bool, true, false, cond, ◌&&◌, List, map, length, Some, None, Option, ◌==◌, nat_lt, slice_index, slice_index_or}
+use Rattle.std.specs.Prelude.{ℕ, zero, suc, ◌+◌, ◌-◌, ◌%◌, Bool, false, cond, ◌&&◌, List, map, length, Some, None, Option, ◌==◌, nat_lt, slice_index, slice_index_or}
 use Rattle.std.specs.List.{slice_get}
 use Rattle.keyed.specs.declared.entry.Entry.{Entry}
-use Rattle.keyed.specs.Contents.{Contents, fits_list, nothing_under, lacks_room, entered}
+use Rattle.keyed.specs.Contents.{Contents, fits_list, nothing_under}
 
 -- A chain of entries leads from a place to ever lower ones. Where on it the test holds first: n is how many entries to look at.
 abbrev pub chained : (ℕ → Bool) → (ℕ → ℕ) → ℕ → ℕ → Option ℕ
@@ -54,17 +54,8 @@ module _ {K X : Type 0} (memory : List (Entry K X)) where
 
   -- what the list holds
   abbrev pub held : (K → K → Bool) → (K → ℕ) → ℕ → Contents K X
-  held same spread used = cond (fits_list (length memory)) (held_in same spread (min used (length memory))) (nothing_under 0)
+  held same spread used = cond (fits_list (length memory)) (held_in same spread used) (nothing_under 0)
 
 -- an entry with another link to the newest of the chain that starts at its place
 abbrev pub with_newest : {K X : Type 0} → Entry K X → ℕ → Entry K X
 with_newest e newest = record { key = e.key; content = e.content; start = e.start; older = e.older; newest = newest }
-
--- What entering does to memory of which `used` entries are used, and how many then are: none, and nothing is written, where the list is full.
-module _ {K X : Type 0} (same : K → K → Bool) (spread : K → ℕ) (key : K) (content : X) (used : ℕ) where
-  abbrev pub Enters : List (Entry K X) → Option ℕ → List (Entry K X) → Type 0
-  Enters before None after =
-      (lacks_room same (held_in before same spread used) key ≡ true) × (after ≡ before)
-  Enters before (Some used_then) after =
-      (lacks_room same (held_in before same spread used) key ≡ false) × (used_then ≤ length after) × (length after ≡ length before)
-      × (held_in after same spread used_then ≡ entered same (held_in before same spread used) key content)

@@ -2,6 +2,7 @@
 ghost use Rattle.std.specs.Prelude.{◌≡◌};
 
 // The entries of keys whose search starts at the same place are a chain, the newest first.
+// Links are places of 16 bits and no options, since entries lie in memory that is handed over by the caller, as small as can be.
 #[derive(Clone, Copy)]
 pub struct Entry<K, V> {
     pub(crate) key: K,

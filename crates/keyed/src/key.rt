@@ -1,33 +1,22 @@
 // What entries are found under.
-ghost use Rattle.std.specs.Prelude.{◌≡◌, ℕ, Bool, nat_eq};
+ghost use Rattle.std.specs.Prelude.{◌≡◌, ℕ};
 ghost use Rattle.keyed.specs.Keys.{Exact, number_exact};
 
-pub trait Key: Copy {
-    ghost same: { Self → Self → Bool };
-
-    // The proof that the test tells whether two keys are one.
-    ghost exact: { Exact same };
-
+pub trait Key: Copy + Eq {
     ghost spread: { Self → ℕ };
-
-    fn is(&self, other: &Self) -> bool
-        ensures { result ≡ same self.now other.now };
 
     // A number to begin a search with. Any will do; the fewer keys share one, the shorter the search.
     fn spread(&self) -> usize
         ensures { result ≡ spread self.now };
+
+    // Keys that are equal are one.
+    ghost exact: { Exact Self.eq };
 }
 
 impl Key for u32 {
-    ghost same = { nat_eq };
-
-    ghost exact = { number_exact };
-
     ghost spread = { λ number. number };
 
-    fn is(&self, other: &u32) -> bool {
-        *self == *other
-    }
+    ghost exact = { number_exact };
 
     fn spread(&self) -> usize {
         *self as usize

@@ -4,8 +4,6 @@
 mod entry;
 mod key;
 mod list;
-mod search;
-mod write;
 
 pub use entry::Entry;
 pub use key::Key;

@@ -1,6 +1,5 @@
 -- The two columns of a sheet, written line by line.
-use Rattle.std.proofs.Common.{◌≡◌, ℕ, ◌+◌, ◌<◌, ◌≤◌, true, ◌≢◌, List, length, get_or, set, ℤ, pos, is_some, Some, Ok, unwrap_or, sym, refl, ap, ◌∙◌, arith}
-use Rattle.std.proofs.lemmas.List.{get_or-set_other, length-set}
+use Rattle.std.proofs.Common.{◌≡◌, ℕ, ◌<◌, ◌≤◌, true, List, length, get_or, ℤ, is_some, Some, Ok, unwrap_or, sym, ap, ◌∙◌, arith}
 use Rattle.std.proofs.lemmas.Bool.{and_from, lt-ltb, le-leb}
 use Rattle.charging.specs.Limits.{energy_limit}
 use Rattle.posting.specs.declared.posting.Opening.{Opening}
@@ -13,21 +12,7 @@ use Rattle.ledger.specs.Calls.{Does, Drawn, Lists, Written, draw_verdict}
 use Rattle.ledger.specs.Energies.{Energies, LawfulRule, Sharing, all_known, gain, positions_of}
 use Rattle.ledger.specs.Judgement.{Held, periods_of}
 use Rattle.ledger.specs.Marks.{price_at}
-use Rattle.ledger.proofs.Each.{each_set}
 use Rattle.ledger.proofs.Gains.{sheet_long, line_brings}
-
-module _ (f : ℕ → ℤ) (before : List ℤ) where
-  pub written_none : Written 0 f before before
-  written_none = record { same_length = refl; entries = λ i h. absurd (omega arith); others = λ i h. refl }
-
-  pub written_more : (now : List ℤ) (i : ℕ) (z : ℤ) → i < length before → z ≡ f i → Written i f before now → Written (i + 1) f before (set now i z)
-  written_more now i z l e w =
-      let m : i < length now = omega (arith, w.same_length) in
-      record {
-        same_length = length-set now i z ∙ w.same_length;
-        entries = each_set (λ k y. y ≡ f k) now i (pos 0) z m w.entries e;
-        others = λ k h. let ne : k ≢ i = omega arith in get_or-set_other now i k z (pos 0) ne ∙ w.others k (omega arith);
-      }
 
 -- the same entries, told otherwise
 written_same : (m n : ℕ) (f g : ℕ → ℤ) (before after : List ℤ) → m ≡ n → ((i : ℕ) → i < n → f i ≡ g i) → Written m f before after → Written n g before after

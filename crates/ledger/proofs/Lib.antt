@@ -3,7 +3,7 @@ pub mod Columns
 pub mod Each
 pub mod Every
 pub mod Gains
-pub mod Judged
+pub mod Judging
 pub mod Known
 pub mod Steps
 pub mod Turned

@@ -3,19 +3,20 @@ use Rattle.std.proofs.Common.{◌≡◌, ℕ, ◌<◌, ◌≤◌, Bool, true, fa
 use Rattle.std.proofs.lemmas.Bool.{le-leb, leb-true}
 use Rattle.refusal.specs.declared.reason.Reason.{Reason}
 use Rattle.energy.specs.Meaning.{Meaning}
-use Rattle.ledger.specs.declared.concern.Concern.{Concern}
+use Rattle.refusal.specs.declared.concern.Concern.{Concern}
 use Rattle.ledger.specs.declared.entries.Account.{Account}
 use Rattle.ledger.specs.declared.entries.Mark.{Mark}
 use Rattle.ledger.specs.declared.entries.Mark.TheVariants.{Unpriced, Priced, Settled}
 use Rattle.ledger.specs.declared.marks.Event.TheVariants.{Energy, Price}
 use Rattle.ledger.specs.declared.marks.Turn.{Turn}
 use Rattle.ledger.specs.declared.marks.Turn.TheVariants.{Settling, Reopening}
-use Rattle.ledger.specs.Answers.{concern, of_period, ◌then◌}
+use Rattle.refusal.specs.Numbers.{concern, of_period}
+use Rattle.ledger.specs.Answers.{◌then◌}
 use Rattle.ledger.specs.Calls.{Turns, Settles, Reopens, booked, next_mark, member_verdict, energy_verdict, price_verdict, turned_mark}
 use Rattle.ledger.specs.Energies.{Energies, Sharing, all_known, gain}
 use Rattle.ledger.specs.Judgement.{Held, nothing, judged, judged_with_book, mark_in_range, periods_of}
 use Rattle.ledger.specs.Marks.{Offer, advanced, event_of, price_at, published}
-use Rattle.ledger.proofs.Judged.{then_parts}
+use Rattle.ledger.proofs.Judging.{then_parts}
 use Rattle.ledger.proofs.Turned.{next_parts, never_ok, some_same}
 use Rattle.posting.specs.declared.posting.MemberEnergy.{MemberEnergy}
 use Rattle.posting.specs.declared.posting.Opening.{Opening}

@@ -1,22 +1,23 @@
 -- One period settled or reopened, over plain values.
-use Rattle.std.proofs.Common.{◌≡◌, ℕ, ◌<◌, ◌≤◌, true, ltb, List, get_or, set, ℤ, nat_abs, Some, None, Ok, Err, Option, Result, sym, refl, ap, ◌∙◌, subst, ap₂, arith}
+use Rattle.std.proofs.Common.{◌≡◌, ℕ, ◌<◌, ◌≤◌, true, ltb, List, get_or, set, ℤ, nat_abs, Some, Ok, Err, Option, Result, sym, refl, ap, ◌∙◌, subst, ap₂, arith}
 use Rattle.std.proofs.lemmas.Bool.{leb-true, ltb-true}
 use Rattle.refusal.specs.declared.refused.Refusal.{Refusal}
 use Rattle.posting.specs.declared.posting.Opening.{Opening}
 use Rattle.pricing.specs.Limits.{price_limit}
-use Rattle.ledger.specs.declared.concern.Concern.{Concern}
+use Rattle.refusal.specs.declared.concern.Concern.{Concern}
 use Rattle.ledger.specs.declared.entries.Account.{Account}
 use Rattle.ledger.specs.declared.entries.Mark.{Mark}
 use Rattle.ledger.specs.declared.entries.Mark.TheVariants.{Unpriced, Priced, Settled}
 use Rattle.ledger.specs.declared.marks.Event.{Event}
 use Rattle.ledger.specs.declared.marks.Turn.{Turn}
 use Rattle.ledger.specs.declared.marks.Turn.TheVariants.{Settling, Reopening}
-use Rattle.ledger.specs.Answers.{Answer, of_period, ◌then◌}
+use Rattle.refusal.specs.Numbers.{of_period}
+use Rattle.ledger.specs.Answers.{Answer, ◌then◌}
 use Rattle.ledger.specs.Calls.{Does, Booked, Turned, next_mark, period_verdict, turn_verdict, turned_mark}
 use Rattle.ledger.specs.Energies.{Energies, Sharing, all_known, gain}
 use Rattle.ledger.specs.Judgement.{Held, periods_of, mark_in_range}
 use Rattle.ledger.specs.Marks.{advanced, event_of, price_at}
-use Rattle.ledger.proofs.Judged.{then_parts, unless_passed}
+use Rattle.ledger.proofs.Judging.{then_parts, unless_passed}
 
 -- a call after a test that it passed
 pub does_then : {S : Type 0} {deed : S → S → Type 0} (test verdict : Answer) (r : Answer) (before after : S) → test ≡ Ok tt → Does verdict deed r before after → Does (test then verdict) deed r before after
@@ -30,9 +31,6 @@ never_ok q = let z : ◌≡◌ {A = ℕ} 0 1 = cc in absurd (omega arith)
 
 pub some_same : {x y : ℤ} {o : Option ℤ} → o ≡ Some x → Some y ≡ o → y ≡ x
 some_same p q = cc
-
-pub never_none : {x : ℤ} {o : Option ℤ} {P : Type 0} → o ≡ Some x → None ≡ o → P
-never_none p q = let z : ◌≡◌ {A = ℕ} 0 1 = cc in absurd (omega arith)
 
 -- what an event finds that a period allows
 pub next_parts : (who : Concern) (o : Opening) (marks : List Mark) (p : ℕ) (event : Event) (next : Mark) → next_mark who o marks p event ≡ Ok next → (p < periods_of o) × (advanced who (get_or marks p Unpriced) event ≡ Ok next)

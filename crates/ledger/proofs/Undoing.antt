@@ -10,13 +10,14 @@ use Rattle.ledger.specs.declared.entries.Mark.{Mark}
 use Rattle.ledger.specs.declared.entries.Mark.TheVariants.{Unpriced, Priced, Settled}
 use Rattle.ledger.specs.declared.marks.Event.TheVariants.{Reopen}
 use Rattle.ledger.specs.declared.marks.Turn.TheVariants.{Settling, Reopening}
-use Rattle.ledger.specs.Answers.{Answer, of_period, refused, unless, ◌then◌}
+use Rattle.refusal.specs.Numbers.{of_period}
+use Rattle.ledger.specs.Answers.{Answer, refused, unless, ◌then◌}
 use Rattle.ledger.specs.Calls.{Booked, Settles, Reopens, booked, turn_verdict, next_mark}
 use Rattle.ledger.specs.Energies.{Sharing, all_known, gain}
 use Rattle.ledger.specs.Judgement.{Held, nothing, periods_of, book_fits, size_verdict, judged_with_book, ledger_verdict, lengths_fit, in_range, figures_fit}
 use Rattle.ledger.specs.Marks.{advanced, price_at}
 use Rattle.ledger.proofs.Accounts.{same_account}
-use Rattle.ledger.proofs.Judged.{then_parts, unless_passed}
+use Rattle.ledger.proofs.Judging.{then_parts, unless_passed}
 use Rattle.ledger.proofs.Steps.{is_settled, settle_done}
 use Rattle.ledger.proofs.Turned.{some_same}
 use Rattle.posting.specs.declared.posting.Opening.{Opening}

@@ -5,7 +5,7 @@ use Rattle.refusal.specs.declared.refused.Refusal.{Refusal}
 use Rattle.energy.specs.Meaning.{Meaning, book_verdict, posted}
 use Rattle.posting.specs.declared.posting.MemberEnergy.{MemberEnergy}
 use Rattle.posting.specs.declared.posting.Opening.{Opening}
-use Rattle.ledger.specs.declared.concern.Concern.{Concern}
+use Rattle.refusal.specs.declared.concern.Concern.{Concern}
 use Rattle.ledger.specs.declared.entries.Account.{Account}
 use Rattle.ledger.specs.declared.entries.Mark.{Mark}
 use Rattle.ledger.specs.declared.entries.Mark.TheVariants.{Unpriced, Priced, Settled}
@@ -13,7 +13,8 @@ use Rattle.ledger.specs.declared.marks.Event.{Event}
 use Rattle.ledger.specs.declared.marks.Event.TheVariants.{Energy, Price}
 use Rattle.ledger.specs.declared.marks.Turn.{Turn}
 use Rattle.ledger.specs.declared.marks.Turn.TheVariants.{Settling, Reopening}
-use Rattle.ledger.specs.Answers.{Answer, nobody, concern, of_period, refused, unless, ◌then◌}
+use Rattle.refusal.specs.Numbers.{nobody, concern, of_period}
+use Rattle.ledger.specs.Answers.{Answer, refused, unless, ◌then◌}
 use Rattle.ledger.specs.Energies.{Energies, Sharing, all_known, gain, schedule_line, reading_line, x_of, y_of}
 use Rattle.ledger.specs.Judgement.{Held, nothing, periods_of, lengths_fit, figures_verdict, judged, judged_with_book}
 use Rattle.ledger.specs.Marks.{Offer, advanced, event_of, price_at}

@@ -14,7 +14,8 @@ use Rattle.sharing.specs.Rests.{in_set}
 use Rattle.sharing.specs.Verdict.{verdict}
 use Rattle.sheet.specs.Lines.{everybody, imbalance_of, imbalances_of}
 use Rattle.ledger.specs.declared.entries.Account.{Account}
-use Rattle.ledger.specs.Answers.{Answer, concern, refused, unless, ◌then◌}
+use Rattle.refusal.specs.Numbers.{concern}
+use Rattle.ledger.specs.Answers.{Answer, refused, unless, ◌then◌}
 
 -- the kWh of a line in a period, if any
 abbrev pub Energies : Type 0

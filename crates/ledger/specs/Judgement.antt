@@ -7,7 +7,7 @@ use Rattle.energy.specs.Meaning.{Meaning}
 use Rattle.posting.specs.declared.posting.Opening.{Opening}
 use Rattle.pricing.specs.Limits.{price_limit}
 use Rattle.sharing.specs.Verdict.{most_members}
-use Rattle.ledger.specs.declared.concern.Concern.{Concern}
+use Rattle.refusal.specs.declared.concern.Concern.{Concern}
 use Rattle.ledger.specs.declared.entries.Account.{Account}
 use Rattle.ledger.specs.declared.entries.Ledger.{Ledger}
 use Rattle.ledger.specs.declared.entries.Mark.{Mark}
@@ -20,11 +20,15 @@ pub record Held : Type 0 where
   pub marks : List Mark
   pub accounts : List Account
 
-abbrev pub held_in : Ledger → Held
-held_in l = record { marks = l.marks.now; accounts = l.accounts.now }
+abbrev pub held : List Mark → List Account → Held
+held marks accounts = record { marks = marks; accounts = accounts }
 
--- the ledger is still that of the memory that was lent for it, so that its lender finds there what the ledger holds
+abbrev pub held_in : Ledger → Held
+held_in l = held l.marks.now l.accounts.now
+
+-- the ledger is still that of its run and of the memory that was lent for it, so that its lender finds there what the ledger holds
 pub record SameMemory (before after : Ledger) : Type 0 where
+  pub of_figures : after.opening ≡ before.opening
   pub of_marks : after.marks.ghost_name ≡ before.marks.ghost_name
   pub of_accounts : after.accounts.ghost_name ≡ before.accounts.ghost_name
 

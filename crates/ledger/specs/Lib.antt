@@ -5,3 +5,4 @@ pub mod Energies
 pub mod Calls
 pub mod Booking
 pub mod Invoices
+pub mod Judged

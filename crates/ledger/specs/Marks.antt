@@ -4,7 +4,7 @@ use Rattle.refusal.specs.declared.reason.Reason.{Reason}
 use Rattle.refusal.specs.declared.reason.Reason.TheVariants.{PeriodSettled, PeriodNotSettled, FigureOutOfRange, NoPrice}
 use Rattle.refusal.specs.declared.refused.Refusal.{Refusal}
 use Rattle.pricing.specs.Limits.{price_limit}
-use Rattle.ledger.specs.declared.concern.Concern.{Concern}
+use Rattle.refusal.specs.declared.concern.Concern.{Concern}
 use Rattle.ledger.specs.declared.entries.Mark.{Mark}
 use Rattle.ledger.specs.declared.entries.Mark.TheVariants.{Unpriced, Priced, Settled}
 use Rattle.ledger.specs.declared.marks.Event.{Event}

@@ -1,35 +1,24 @@
 // The judgement of figures, ledger and book with which every later call of a run begins.
-ghost use Rattle.std.specs.Prelude.{◌≡◌, ◌≤◌, Bool};
+ghost use Rattle.std.specs.Prelude.{◌≡◌, ◌≤◌, Bool, IfOk};
 ghost use Rattle.sharing.specs.Verdict.{most_members};
-ghost use Rattle.ledger.specs.Judgement.{held_in, periods_of, account_in_range, mark_in_range, every, lengths_fit, in_range, book_fits, consumers_fit, figures_fit, ledger_verdict, judged, judged_with_book};
+ghost use Rattle.ledger.specs.Answers.{answered};
+ghost use Rattle.ledger.specs.Judged.{IsOf};
+ghost use Rattle.ledger.specs.Judgement.{held_in, periods_of, account_in_range, mark_in_range, every, lengths_fit, in_range, book_fits, consumers_fit, figures_fit, ledger_verdict, figures_verdict, judged, judged_with_book};
 
-use crate::concern::Concern;
 use crate::entries::{Account, Ledger, Mark};
+use crate::judged::JudgedRun;
 use charging::INTERNAL_PRICE_LIMIT;
-use energy::Book;
+use energy::{Book, MOST_DAYS, PERIODS_PER_DAY};
 use posting::Opening;
 use pricing::PRICE_LIMIT;
-use refusal::{Reason, Refusal};
+use refusal::{Concern, Layer, Reason, Refusal};
 use sharing::MOST_MEMBERS;
-
-// Quarters of an hour.
-const PERIODS_PER_DAY: usize = 96;
-
-// A run is of one month at most.
-const MOST_DAYS: u8 = 31;
 
 // Well above what 2,976 periods of 500,000 kWh can bring a member.
 const ACCOUNT_KWH_LIMIT: u64 = 10_000_000_000;
 
 // Above what those periods can bring at any price; and the sum of 64 such accounts still has 64 bits.
 const ACCOUNT_MONEY_LIMIT: u64 = 100_000_000_000_000_000;
-
-// How many periods the run has.
-pub(crate) fn periods_of(opening: &Opening) -> usize
-    ensures { result ≡ periods_of opening.now }
-{
-    usize::from(opening.days) * PERIODS_PER_DAY
-}
 
 // What a ledger has a list of.
 trait Entry {
@@ -53,10 +42,8 @@ impl Entry for Mark {
     ghost fits = { mark_in_range };
 
     fn in_range(&self) -> bool {
-        match self.price() {
-            Some(price) => price.unsigned_abs() <= PRICE_LIMIT,
-            None => true,
-        }
+        self.price()
+            .is_none_or(|price| price.unsigned_abs() <= PRICE_LIMIT)
     }
 }
 
@@ -71,26 +58,6 @@ fn all_in_range<E: Entry>(entries: &[E]) -> bool
     true
 }
 
-// Whether memory of these lengths is that of the run.
-pub(crate) fn lengths_fit(opening: &Opening, ledger: &Ledger) -> bool
-    ensures { result ≡ lengths_fit opening.now (held_in ledger.now) }
-{
-    ledger.marks.len() == periods_of(opening)
-        && ledger.accounts.len() == usize::from(opening.members)
-}
-
-fn in_range(ledger: &Ledger) -> bool
-    ensures { result ≡ in_range (held_in ledger.now) }
-{
-    all_in_range(ledger.accounts) && all_in_range(ledger.marks)
-}
-
-fn book_fits<B: Book>(opening: &Opening, book: &B) -> bool
-    ensures { result ≡ book_fits opening.now (B.Book.meaning book.now) }
-{
-    2 * usize::from(opening.members) <= book.lines() && periods_of(opening) <= book.periods()
-}
-
 // Whether no consumer's number is that of the members or above it; 128 bits, since 64 may be shifted out.
 fn consumers_fit(opening: &Opening) -> bool
     requires { opening.now.members ≤ most_members }
@@ -99,56 +66,105 @@ fn consumers_fit(opening: &Opening) -> bool
     u128::from(opening.consumers) >> opening.members == 0
 }
 
-// Whether a run can be opened with these figures.
-pub(crate) fn figures_fit(opening: &Opening) -> bool
-    ensures { result ≡ figures_fit opening.now }
-{
-    1 <= opening.members
-        && usize::from(opening.members) <= MOST_MEMBERS
-        && 1 <= opening.days
-        && opening.days <= MOST_DAYS
-        && consumers_fit(opening)
-        && opening.internal_price.unsigned_abs() <= INTERNAL_PRICE_LIMIT
-}
+impl Ledger<'_> {
+    // How many periods the run has.
+    pub(crate) fn periods(&self) -> usize
+        ensures { result ≡ periods_of self.now.opening }
+    {
+        usize::from(self.opening.days) * PERIODS_PER_DAY
+    }
 
-fn judge_ledger(opening: &Opening, ledger: &Ledger, who: Concern) -> Result<(), Refusal>
-    ensures { result ≡ ledger_verdict who opening.now (held_in ledger.now) }
-{
-    if !lengths_fit(opening, ledger) {
-        return Err(who.refused(Reason::WrongLength));
+    // Whether the memory has the lengths of the run.
+    pub(crate) fn lengths_fit(&self) -> bool
+        ensures { result ≡ lengths_fit self.now.opening (held_in self.now) }
+    {
+        self.marks.len() == self.periods()
+            && self.accounts.len() == usize::from(self.opening.members)
     }
-    if !in_range(ledger) {
-        return Err(who.refused(Reason::LedgerOutOfRange));
-    }
-    Ok(())
-}
 
-// Whether a call that is given no book takes these figures and this ledger.
-pub(crate) fn judge(opening: &Opening, ledger: &Ledger, who: Concern) -> Result<(), Refusal>
-    ensures { result ≡ judged who opening.now (held_in ledger.now) }
-{
-    judge_ledger(opening, ledger, who)?;
-    if !figures_fit(opening) {
-        return Err(who.refused(Reason::OutsideLimits));
+    fn in_range(&self) -> bool
+        ensures { result ≡ in_range (held_in self.now) }
+    {
+        all_in_range(self.accounts) && all_in_range(self.marks)
     }
-    Ok(())
-}
 
-// Whether a call takes these figures, this ledger and this book.
-pub(crate) fn judge_with_book<B: Book>(
-    opening: &Opening,
-    ledger: &Ledger,
-    book: &B,
-    who: Concern,
-) -> Result<(), Refusal>
-    ensures { result ≡ judged_with_book who opening.now (held_in ledger.now) (B.Book.meaning book.now) }
-{
-    judge_ledger(opening, ledger, who)?;
-    if !book_fits(opening, book) {
-        return Err(who.refused(Reason::BookTooSmall));
+    fn book_fits<B: Book>(&self, book: &B) -> bool
+        ensures { result ≡ book_fits self.now.opening (B.Book.meaning book.now) }
+    {
+        2 * usize::from(self.opening.members) <= book.lines() && self.periods() <= book.periods()
     }
-    if !figures_fit(opening) {
-        return Err(who.refused(Reason::OutsideLimits));
+
+    // Whether a run can be opened with these figures.
+    pub(crate) fn figures_fit(&self) -> bool
+        ensures { result ≡ figures_fit self.now.opening }
+    {
+        let Opening {
+            members,
+            days,
+            internal_price,
+            ..
+        } = self.opening;
+        1 <= members
+            && usize::from(members) <= MOST_MEMBERS
+            && 1 <= days
+            && usize::from(days) <= MOST_DAYS
+            && consumers_fit(&self.opening)
+            && internal_price.unsigned_abs() <= INTERNAL_PRICE_LIMIT
     }
-    Ok(())
+
+    fn judge_ledger(&self, who: Concern) -> Result<(), Refusal>
+        ensures { result ≡ ledger_verdict who self.now.opening (held_in self.now) }
+    {
+        if !self.lengths_fit() {
+            return Err(who.refused(Reason::WrongLength, Layer::Run));
+        }
+        if !self.in_range() {
+            return Err(who.refused(Reason::LedgerOutOfRange, Layer::Run));
+        }
+        Ok(())
+    }
+
+    fn judge_figures(&self, who: Concern) -> Result<(), Refusal>
+        ensures { result ≡ figures_verdict who self.now.opening }
+    {
+        if !self.figures_fit() {
+            return Err(who.refused(Reason::OutsideLimits, Layer::Run));
+        }
+        Ok(())
+    }
+
+    // The judgement of a call that is given no book.
+    pub(crate) fn judge(&self, who: Concern) -> Result<JudgedRun<'_>, Refusal>
+        ensures answer { answered result ≡ judged who self.now.opening (held_in self.now) }
+        ensures same { IfOk result (IsOf self.now) }
+    {
+        self.judge_ledger(who)?;
+        self.judge_figures(who)?;
+        Ok(JudgedRun {
+            opening: self.opening,
+            marks: self.marks,
+            accounts: self.accounts,
+        })
+    }
+
+    // The judgement of a call that is given a book; it is asked between the tests that both judgements make.
+    pub(crate) fn judge_with_book<B: Book>(
+        &self,
+        book: &B,
+        who: Concern,
+    ) -> Result<JudgedRun<'_>, Refusal>
+        ensures answer { answered result ≡ judged_with_book who self.now.opening (held_in self.now) (B.Book.meaning book.now) }
+        ensures same { IfOk result (IsOf self.now) }
+    {
+        self.judge_ledger(who)?;
+        if !self.book_fits(book) {
+            return Err(who.refused(Reason::BookTooSmall, Layer::Run));
+        }
+        self.judge_figures(who)?;
+        Ok(JudgedRun {
+            opening: self.opening,
+            marks: self.marks,
+            accounts: self.accounts,
+        })
+    }
 }

@@ -2,11 +2,11 @@
 #![tactic(auto)]
 
 mod booking;
-mod concern;
 mod drawing;
 mod energies;
 mod entries;
 mod invoices;
+mod judged;
 mod judgement;
 mod marks;
 mod openings;
@@ -14,10 +14,4 @@ mod positions;
 mod prices;
 mod turning;
 
-pub use drawing::write_sheet;
-pub use energies::{enter_reading, enter_schedule};
 pub use entries::{Account, Ledger, Mark};
-pub use invoices::invoice_line;
-pub use openings::clear;
-pub use prices::{enter_figures, enter_price};
-pub use turning::{reopen_period, settle_period};

@@ -1,19 +1,19 @@
 -- Bytes that are read as a posting are its record.
-use Rattle.std.proofs.Common.{◌≡◌, ℕ, zero, suc, ◌+◌, ◌/◌, ◌%◌, ◌^◌, ◌<◌, ◌≤◌, Bool, true, false, cond, ◌&&◌, eqb, leb, List, [], ◌∷◌, ◌++◌, length, ℤ, pos, negsuc, Some, None, Option, unwrap_or, sym, refl, ap, ◌∙◌, subst, arith, w32, SFits}
-use Rattle.std.specs.Option.{option_map}
-use Rattle.std.proofs.lemmas.Bool.{eqb-true, leb-true, and_parts, cond_both}
+use Rattle.std.proofs.Common.{◌≡◌, ℕ, zero, suc, ◌+◌, ◌/◌, ◌%◌, ◌^◌, ◌<◌, ◌≤◌, Bool, true, false, cond, eqb, leb, List, [], ◌∷◌, ◌++◌, length, ℤ, pos, negsuc, Some, None, Option, unwrap_or, sym, refl, ap, ◌∙◌, subst, arith, w32, SFits}
+use Rattle.std.specs.Option.{option_map, option_and_then}
+use Rattle.posting.specs.declared.kind.Kind.{Kind}
+use Rattle.posting.specs.declared.kind.Kind.TheVariants as kinds
+use Rattle.std.proofs.lemmas.Bool.{eqb-true, leb-true, cond_both}
 use Rattle.std.proofs.lemmas.Bool.Decides.{nat_tests}
 use Rattle.posting.specs.declared.posting.MemberEnergy.{MemberEnergy}
 use Rattle.posting.specs.declared.posting.Posting.{Posting}
 use Rattle.posting.specs.declared.posting.Posting.TheVariants.{Opening, Schedule, Reading, Price, Figures, Settle, Reopen}
 use Rattle.posting.specs.Bytes.{byte_at, two, two_at, signed_at, signed_four}
+use Rattle.posting.specs.Kinds.{kind_byte, kind_told}
 use Rattle.posting.specs.Encoding.{energy_fields, flag_of, bid_or_zero, body_of}
-use Rattle.posting.specs.Reading.{if_long, opening_at, opening_in, energy_at, energy_in, price_in, period_in, activation_at, activations_at, bid_in, figures_at, figures_with, figures_in, kind_in, posting_in}
+use Rattle.posting.specs.Reading.{if_long, opening_at, opening_in, energy_at, energy_in, price_in, period_in, activation_at, activations_at, bid_in, both, bids_in, figures_at, figures_in, fields_in, posting_in}
 use Rattle.posting.specs.Laws.{ProperEnergy, ProperActivation, ProperActivations, ProperBid, Proper}
 use Rattle.posting.proofs.Numbers.{Bytes, spelled, two_small, four_small, eight_small, signed_small, two_of, four_of, eight_of, signed_of}
-
-pub none_some : {X : Type 0} (x : X) → None ≡ Some x → ⊥
-none_some x e = let z : ◌≡◌ {A = ℕ} 0 1 = cc in omega arith
 
 pub same_some : {X : Type 0} (x y : X) → Some x ≡ Some y → x ≡ y
 same_some x y e = ap (λ o. unwrap_or o x) e
@@ -26,14 +26,14 @@ from_long : {X : Type 0} (size : ℕ) (fields : List ℕ) (x y : X) → if_long 
 from_long size fields x y =
     cond_both (eqb (length fields) size) (Some x) None (λ o. o ≡ Some y → (length fields ≡ size) × (x ≡ y))
     (λ e h. (eqb-true (length fields) size e, same_some x y h))
-    (λ e h. absurd (none_some y h))
+    (λ e h. cc)
 
 -- the same of a value that a posting is made of
 from_mapped : {X : Type 0} (make : X → Posting) (size : ℕ) (fields : List ℕ) (x : X) (p : Posting) → option_map make (if_long size fields x) ≡ Some p → (length fields ≡ size) × (make x ≡ p)
 from_mapped make size fields x p =
     cond_both (eqb (length fields) size) (Some x) None (λ o. option_map make o ≡ Some p → (length fields ≡ size) × (make x ≡ p))
     (λ e h. (eqb-true (length fields) size e, same_some (make x) p h))
-    (λ e h. absurd (none_some p h))
+    (λ e h. cc)
 
 module _ (fields : List ℕ) (bytes : Bytes fields) where
   opening_forth : length fields ≡ 14 → Writes (0 ∷ fields) (Opening (opening_at fields))
@@ -80,8 +80,30 @@ Stands flagged price weight bid = (bid_or_zero bid ≡ price) × (flag_of weight
 bid_forth : (flagged : Bool) (price : ℤ) (weight : ℕ) (bid : Option ℤ) → SFits w32 price → bid_in flagged price ≡ Some bid → Stands flagged price weight bid
 bid_forth true price weight bid fits e = subst (Stands true price weight) (same_some (Some price) bid e) (refl, refl, fits)
 bid_forth false (pos zero) weight bid fits e = subst (Stands false (pos 0) weight) (same_some None bid e) (refl, refl, tt)
-bid_forth false (pos (suc n)) weight bid fits e = absurd (none_some bid e)
-bid_forth false (negsuc n) weight bid fits e = absurd (none_some bid e)
+bid_forth false (pos (suc n)) weight bid fits e = cc
+bid_forth false (negsuc n) weight bid fits e = cc
+
+mapped_some : {X Y : Type 0} (make : X → Y) (o : Option X) (y : Y) → option_map make o ≡ Some y → (x : X) × (o ≡ Some x) × (make x ≡ y)
+mapped_some make None y e = cc
+mapped_some make (Some x) y e = (x, refl, same_some (make x) y e)
+
+both_some : {X Y : Type 0} (a : Option X) (b : Option Y) (p : X × Y) → both a b ≡ Some p → (a ≡ Some p.0) × (b ≡ Some p.1)
+both_some None b p e = cc
+both_some (Some x) None p e = cc
+both_some (Some x) (Some y) p e =
+    let is = same_some (x, y) p e in
+    (ap (λ q. Some q.0) is, ap (λ q. Some q.1) is)
+
+bids_forth : (flags : ℕ) (downward upward : ℤ) (bids : Option ℤ × Option ℤ) → SFits w32 downward → SFits w32 upward → bids_in flags downward upward ≡ Some bids → (flags ≤ 3) × Stands (eqb (flags % 2) 1) downward 1 bids.0 × Stands (eqb (flags / 2) 1) upward 2 bids.1
+bids_forth flags downward upward bids down up =
+    cond_both (leb flags 3) _ None (λ o. o ≡ Some bids → (flags ≤ 3) × Stands (eqb (flags % 2) 1) downward 1 bids.0 × Stands (eqb (flags / 2) 1) upward 2 bids.1)
+    (λ e h.
+    let found = both_some (bid_in (eqb (flags % 2) 1) downward) (bid_in (eqb (flags / 2) 1) upward) bids h in (
+      leb-true flags 3 e,
+      bid_forth _ downward 1 bids.0 down found.0,
+      bid_forth _ upward 2 bids.1 up found.1,
+    ))
+    (λ e h. cc)
 
 flags_join : (flags : ℕ) → flags ≤ 3 → cond (eqb (flags % 2) 1) 1 0 + cond (eqb (flags / 2) 1) 2 0 ≡ flags
 flags_join flags few = grind (arith, nat_tests)
@@ -125,22 +147,16 @@ module _ (fields : List ℕ) (bytes : Bytes fields) where
         ),
       )
 
-  with_forth : length fields ≡ 67 → byte_at fields 54 ≤ 3 → (p : Posting) (down up : Option (Option ℤ)) → bid_in (eqb (byte_at fields 54 % 2) 1) (signed_at fields 55) ≡ down → bid_in (eqb (byte_at fields 54 / 2) 1) (signed_at fields 59) ≡ up → figures_with fields down up ≡ Some p → Writes (4 ∷ fields) p
-  with_forth long few p None up d u e = absurd (none_some p e)
-  with_forth long few p (Some down) None d u e = absurd (none_some p e)
-  with_forth long few p (Some down) (Some up) d u e =
-      subst (Writes (4 ∷ fields)) (same_some (Figures (two_at fields 0) (figures_at fields down up)) p e)
-      (figures_forth long few down up
-      (bid_forth _ (signed_at fields 55) 1 down (signed_small fields bytes 55) d)
-      (bid_forth _ (signed_at fields 59) 2 up (signed_small fields bytes 59) u))
-
   figures_in_forth : (p : Posting) → figures_in fields ≡ Some p → Writes (4 ∷ fields) p
   figures_in_forth p =
-      cond_both (eqb (length fields) 67 && leb (byte_at fields 54) 3) _ None (λ o. o ≡ Some p → Writes (4 ∷ fields) p)
+      let make : Option ℤ × Option ℤ → Posting = λ bids. Figures (two_at fields 0) (figures_at fields bids.0 bids.1) in
+      cond_both (eqb (length fields) 67) _ None (λ o. o ≡ Some p → Writes (4 ∷ fields) p)
       (λ e h.
-      let both = and_parts (eqb (length fields) 67) (leb (byte_at fields 54) 3) e in
-      with_forth (eqb-true (length fields) 67 both.0) (leb-true (byte_at fields 54) 3 both.1) p _ _ refl refl h)
-      (λ e h. absurd (none_some p h))
+      let found = mapped_some make (bids_in (byte_at fields 54) (signed_at fields 55) (signed_at fields 59)) p h in
+      let stand = bids_forth (byte_at fields 54) (signed_at fields 55) (signed_at fields 59) found.0 (signed_small fields bytes 55) (signed_small fields bytes 59) found.1 in
+      subst (Writes (4 ∷ fields)) found.2
+      (figures_forth (eqb-true (length fields) 67 e) stand.0 found.0.0 found.0.1 stand.1 stand.2))
+      (λ e h. cc)
 
   energy_in_forth : (kind : ℕ) (make : MemberEnergy → Posting) (p : Posting) → ((e : MemberEnergy) → body_of (make e) ≡ kind ∷ energy_fields e) → ((e : MemberEnergy) → ProperEnergy e → Proper (make e)) → option_map make (energy_in fields) ≡ Some p → Writes (kind ∷ fields) p
   energy_in_forth kind make p body proper h =
@@ -166,21 +182,24 @@ module _ (fields : List ℕ) (bytes : Bytes fields) where
       let found = from_long 6 fields (Price (two_at fields 0) (signed_at fields 2)) p h in
       subst (Writes (3 ∷ fields)) found.1 (price_forth fields bytes found.0)
 
-  -- one kind after the other
-  kind_forth : (kind : ℕ) (p : Posting) → kind_in kind fields ≡ Some p → Writes (kind ∷ fields) p
-  kind_forth kind p =
-      let G : Option Posting → Type 0 = λ o. o ≡ Some p → Writes (kind ∷ fields) p in
-      let at : (k : ℕ) → Writes (k ∷ fields) p → eqb kind k ≡ true → Writes (kind ∷ fields) p =
-      λ k w e. subst (λ n. Writes (n ∷ fields) p) (sym (eqb-true kind k e)) w in
-      cond_both (eqb kind 0) _ _ G (λ e h. at 0 (opening_in_forth p h) e)
-      (λ _. cond_both (eqb kind 1) _ _ G (λ e h. at 1 (energy_in_forth 1 Schedule p (λ _. refl) (λ _ w. w) h) e)
-      (λ _. cond_both (eqb kind 2) _ _ G (λ e h. at 2 (energy_in_forth 2 Reading p (λ _. refl) (λ _ w. w) h) e)
-      (λ _. cond_both (eqb kind 3) _ _ G (λ e h. at 3 (price_in_forth p h) e)
-      (λ _. cond_both (eqb kind 4) _ _ G (λ e h. at 4 (figures_in_forth p h) e)
-      (λ _. cond_both (eqb kind 5) _ _ G (λ e h. at 5 (period_in_forth 5 Settle p (λ _. refl) (λ _ w. w) h) e)
-      (λ _. cond_both (eqb kind 6) _ None G (λ e h. at 6 (period_in_forth 6 Reopen p (λ _. refl) (λ _ w. w) h) e)
-      (λ _ h. absurd (none_some p h))))))))
+  kind_forth : (kind : Kind) (p : Posting) → fields_in kind fields ≡ Some p → Writes (kind_byte kind ∷ fields) p
+  kind_forth kinds.Opening p h = opening_in_forth p h
+  kind_forth kinds.Schedule p h = energy_in_forth 1 Schedule p (λ _. refl) (λ _ w. w) h
+  kind_forth kinds.Reading p h = energy_in_forth 2 Reading p (λ _. refl) (λ _ w. w) h
+  kind_forth kinds.Price p h = price_in_forth p h
+  kind_forth kinds.Figures p h = figures_in_forth p h
+  kind_forth kinds.Settle p h = period_in_forth 5 Settle p (λ _. refl) (λ _ w. w) h
+  kind_forth kinds.Reopen p h = period_in_forth 6 Reopen p (λ _. refl) (λ _ w. w) h
+
+-- the byte that tells a kind is its own
+told_back : (byte : ℕ) (kind : Kind) → kind_told byte ≡ Some kind → byte ≡ kind_byte kind
+told_back byte kind e = grind (arith, nat_tests)
+
+from_told : (fields : List ℕ) → Bytes fields → (byte : ℕ) (told : Option Kind) → kind_told byte ≡ told → (p : Posting) → option_and_then (λ kind. fields_in kind fields) told ≡ Some p → Writes (byte ∷ fields) p
+from_told fields bytes byte None e p h = cc
+from_told fields bytes byte (Some kind) e p h =
+    subst (λ n. Writes (n ∷ fields) p) (sym (told_back byte kind e)) (kind_forth fields bytes kind p h)
 
 pub body_forth : (body : List ℕ) → Bytes body → (p : Posting) → posting_in body ≡ Some p → Writes body p
-body_forth [] bytes p e = absurd (none_some p e)
-body_forth (kind ∷ fields) bytes p e = kind_forth fields (λ i. bytes (suc i)) kind p e
+body_forth [] bytes p e = cc
+body_forth (byte ∷ fields) bytes p e = from_told fields (λ i. bytes (suc i)) byte (kind_told byte) refl p e

@@ -14,14 +14,8 @@ use Rattle.posting.proofs.Numbers.{Bytes, two_of}
 use Rattle.posting.proofs.Back.{back}
 use Rattle.posting.proofs.Forth.{body_forth}
 
-pub never : (r : Record) (refusal : Refusal) → Ok r ≡ Err refusal → ⊥
-never r refusal e = let z : ◌≡◌ {A = ℕ} 0 1 = cc in omega arith
-
 pub same_ok : (r s : Record) → ◌≡◌ {A = Result Record Refusal} (Ok r) (Ok s) → r ≡ s
 same_ok r s e = ap (λ o. result_unwrap_or o r) e
-
-same_err : (x y : Refusal) → ◌≡◌ {A = Result Record Refusal} (Err x) (Err y) → x ≡ y
-same_err x y e = cc
 
 bytes_take : (n : ℕ) (xs : List ℕ) → Bytes xs → Bytes (take n xs)
 bytes_take n xs bytes i =
@@ -49,7 +43,7 @@ module _ (high low : ℕ) (rest : List ℕ) (bytes : Bytes (high ∷ low ∷ res
       )
 
   accepted : (r : Record) (o : Option Posting) → posting_in (take (high * 256 + low) rest) ≡ o → 2 + (high * 256 + low) ≤ length (high ∷ low ∷ rest) → sized (2 + (high * 256 + low)) o ≡ Ok r → record_in (high ∷ low ∷ rest) ≡ Ok r → Accepts (high ∷ low ∷ rest) r
-  accepted r None is within e all = absurd (never r bad_record (sym e))
+  accepted r None is within e all = cc
   accepted r (Some p) is within e all =
       let written = body_forth (take (high * 256 + low) rest) (bytes_take (high * 256 + low) rest (λ i. bytes (suc (suc i)))) p is in
       let both = whole p (omega arith) written.0 in
@@ -72,23 +66,23 @@ read_accepts : (bytes : List ℕ) → Bytes bytes → (r : Record) → record_in
 read_accepts bytes small r all =
     cond_both (leb (record_size bytes) (length bytes)) _ (Err cut_short) (λ o. o ≡ Ok r → Accepts bytes r)
     (λ e h. accepts bytes small r (leb-true (record_size bytes) (length bytes) e) h all)
-    (λ e h. absurd (never r cut_short (sym h)))
+    (λ e h. cc)
     all
 
 sized_refuses : (size : ℕ) (o : Option Posting) (refusal : Refusal) → sized size o ≡ Err refusal → refusal ≡ bad_record
-sized_refuses size None refusal e = same_err refusal bad_record (sym e)
-sized_refuses size (Some p) refusal e = absurd (never (record { posting = p; size = size }) refusal e)
+sized_refuses size None refusal e = cc
+sized_refuses size (Some p) refusal e = cc
 
 due : (bytes : List ℕ) (refusal : Refusal) → record_in bytes ≡ Err refusal → refusal ≡ cond (leb (record_size bytes) (length bytes)) bad_record cut_short
 due bytes refusal e =
     elim (leb (record_size bytes) (length bytes)) as (λ b. cond b (sized (record_size bytes) (posting_in (take (two_at bytes 0) (drop 2 bytes)))) (Err cut_short) ≡ Err refusal → refusal ≡ cond b bad_record cut_short) [
       | true ↦ λ h. sized_refuses (record_size bytes) _ refusal h
-      | false ↦ λ h. same_err refusal cut_short (sym h)
+      | false ↦ λ h. cc
     ] e
 
 pub lawful : (bytes : List ℕ) → Bytes bytes → (r : Result Record Refusal) → record_in bytes ≡ r → Reads bytes r
 lawful bytes small (Ok r) e = read_accepts bytes small r e
 lawful bytes small (Err refusal) e = record {
-  none = λ p rest proper is. never (record { posting = p; size = length (encoded p) }) refusal (sym (back p rest proper) ∙ ap record_in (sym is) ∙ e);
+  none = λ p rest proper is. cc (back p rest proper, ap record_in is);
   reason = due bytes refusal e;
 }

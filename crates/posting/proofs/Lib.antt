@@ -1,9 +1,8 @@
-pub mod Bodies
 pub mod Numbers
 pub mod Back
 pub mod Forth
 pub mod Lawful
-pub mod Adding
 pub mod Writing
+pub mod Figures
 pub mod Walking
 pub mod Lines

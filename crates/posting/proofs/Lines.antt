@@ -1,11 +1,11 @@
 -- The text of what is left of a file, one line at a time.
-use Rattle.std.proofs.Common.{◌≡◌, List, [], ◌∷◌, ◌++◌, Some, None, Ok, Err, codes, Option, Result, sym, refl, ap, ◌∙◌, append_assoc, append-nil}
+use Rattle.std.proofs.Common.{◌≡◌, List, [], ◌∷◌, ◌++◌, Some, None, Ok, Err, codes, Option, Result, ap, ◌∙◌, append_assoc, append-nil}
 use Rattle.refusal.specs.declared.refused.Refusal.{Refusal}
 use Rattle.refusal.specs.Text.{refusal_text}
 use Rattle.posting.specs.declared.file.Placed.{Placed}
 use Rattle.posting.specs.File.{Contents, first_of, next_in, rest_of, after_next}
 use Rattle.posting.specs.Text.{placed_text, line_text, postings_text, last_text, contents_text}
-use Rattle.posting.proofs.Forth.{none_some, same_some}
+use Rattle.posting.proofs.Forth.{same_some}
 
 line_first : (postings : List Placed) (refusal : Option Refusal) (step : Result Placed Refusal) → Some step ≡ first_of postings refusal → line_text step ++ contents_text (rest_of postings refusal) ≡ postings_text postings (last_text refusal)
 line_first (p ∷ more) refusal step e =
@@ -13,15 +13,7 @@ line_first (p ∷ more) refusal step e =
     ∙ append_assoc (placed_text p) (codes "\n") (postings_text more (last_text refusal))
 line_first [] (Some refusal) step e =
     ap (λ s. line_text s ++ []) (same_some step (Err refusal) e) ∙ append-nil (refusal_text refusal ++ codes "\n")
-line_first [] None step e = absurd (none_some step (sym e))
+line_first [] None step e = cc
 
 pub line_more : (c d : Contents) (step : Result Placed Refusal) → Some step ≡ next_in c → d ≡ after_next c → line_text step ++ contents_text d ≡ contents_text c
 line_more c d step e rest = ap (λ x. line_text step ++ contents_text x) rest ∙ line_first c.postings c.refusal step e
-
-none_first : (postings : List Placed) (refusal : Option Refusal) → None ≡ first_of postings refusal → postings_text postings (last_text refusal) ≡ []
-none_first (p ∷ more) refusal e = absurd (none_some (Ok p) e)
-none_first [] (Some refusal) e = absurd (none_some (Err refusal) e)
-none_first [] None e = refl
-
-pub line_none : (c : Contents) → None ≡ next_in c → contents_text c ≡ []
-line_none c e = none_first c.postings c.refusal e

@@ -3,20 +3,20 @@ use Rattle.std.proofs.Common.{◌≡◌, ℕ, zero, suc, ◌+◌, ◌-◌, ◌<�
 use Rattle.refusal.specs.declared.refused.Refusal.{Refusal}
 use Rattle.refusal.specs.Numbers.{at_place}
 use Rattle.std.specs.List.{between}
-use Rattle.std.proofs.lemmas.List.{drop_all, drop-drop}
+use Rattle.std.proofs.lemmas.List.{drop-drop}
 use Rattle.std.proofs.lemmas.Slice.{between_to_end}
 use Rattle.std.proofs.lemmas.Bool.{leb-true, cond_both}
 use Rattle.posting.specs.declared.file.Placed.{Placed}
 use Rattle.posting.specs.declared.posting.Posting.{Posting}
 use Rattle.posting.specs.declared.reader.Record.{Record}
-use Rattle.posting.specs.File.{nothing, stopped_by, followed_by, in_turn, placed_record, then_from, contents_behind, contents_from}
+use Rattle.posting.specs.File.{followed_by, in_turn, placed_record, then_from, contents_behind, contents_from}
 use Rattle.posting.specs.Reading.{cut_short, bad_record, record_size, sized, record_in}
-use Rattle.posting.proofs.Lawful.{never, same_ok}
+use Rattle.posting.proofs.Lawful.{same_ok}
 
 -- ---- how many bytes a record takes
 
 sized_size : (size : ℕ) (o : Option Posting) (r : Record) → sized size o ≡ Ok r → r.size ≡ size
-sized_size size None r e = absurd (never r bad_record (sym e))
+sized_size size None r e = cc
 sized_size size (Some p) r e = ap (λ s. s.size) (sym (same_ok (record { posting = p; size = size }) r e))
 
 record_within : (bytes : List ℕ) (r : Record) → record_in bytes ≡ Ok r → (1 ≤ r.size) × (r.size ≤ length bytes)
@@ -26,14 +26,14 @@ record_within bytes r =
     let is = sized_size (record_size bytes) _ r h in
     let within = leb-true (record_size bytes) (length bytes) e in
     (omega arith, omega arith))
-    (λ e h. absurd (never r cut_short (sym h)))
+    (λ e h. cc)
 
 placed_ok : (opened : Bool) (place : ℕ) (o : Result Record Refusal) (r : Record) → placed_record opened place o ≡ Ok r → o ≡ Ok r
 placed_ok opened place (Ok s) r e =
     cond_both (in_turn opened s.posting) (Ok s) (Err (at_place bad_record place)) (λ x. x ≡ Ok r → ◌≡◌ {A = Result Record Refusal} (Ok s) (Ok r)) (λ _ h. h)
-    (λ _ h. absurd (never r (at_place bad_record place) (sym h)))
+    (λ _ h. cc)
     e
-placed_ok opened place (Err refusal) r e = absurd (never r (at_place refusal place) (sym e))
+placed_ok opened place (Err refusal) r e = cc
 
 -- ---- from one record to the next
 
@@ -58,17 +58,9 @@ next_ok opened place (byte ∷ bytes) r some is =
     ∙ ap (λ n. followed_by first (contents_from true n (drop k bytes))) on
     ∙ ap (λ n. followed_by first (contents_from true (place + n) (drop n (byte ∷ bytes)))) one_more
 
-next_err : (opened : Bool) (place : ℕ) (bytes : List ℕ) (refusal : Refusal) → 0 < length bytes → placed_record opened place (record_in bytes) ≡ Err refusal → contents_from opened place bytes ≡ stopped_by refusal
-next_err opened place [] refusal some is = absurd (omega arith)
-next_err opened place (byte ∷ bytes) refusal some is =
-    ap (λ o. then_from place o (λ size. contents_behind (size - 1) true (place + 1) bytes)) is
-
 -- ---- at a place of a file
 
 module _ (file : List ℕ) (opened : Bool) (place : ℕ) where
-  pub ended_at : length file ≤ place → contents_from opened place (drop place file) ≡ nothing
-  ended_at past = ap (contents_from opened place) (drop_all place file past)
-
   abbrev pub here : Result Record Refusal
   here = placed_record opened place (record_in (between place (length file) file))
 
@@ -83,9 +75,6 @@ module _ (file : List ℕ) (opened : Bool) (place : ℕ) where
   next_at r h is =
       next_ok opened place (drop place file) r (some_left h) (as_dropped (Ok r) is)
       ∙ ap (λ bytes. followed_by (record { place = place; posting = r.posting }) (contents_from true (place + r.size) bytes)) (drop-drop r.size place file)
-
-  pub stopped_at : (refusal : Refusal) → place < length file → Err refusal ≡ here → contents_from opened place (drop place file) ≡ stopped_by refusal
-  stopped_at refusal h is = next_err opened place (drop place file) refusal (some_left h) (as_dropped (Err refusal) is)
 
   pub within_at : (r : Record) → place < length file → Ok r ≡ here → place + r.size ≤ length file
   within_at r h is =

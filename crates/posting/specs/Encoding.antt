@@ -9,6 +9,7 @@ use Rattle.posting.specs.declared.posting.Opening.{Opening as OpeningFigures}
 use Rattle.posting.specs.declared.posting.Posting.{Posting}
 use Rattle.posting.specs.declared.posting.Posting.TheVariants.{Opening, Schedule, Reading, Price, Figures, Settle, Reopen}
 use Rattle.posting.specs.Bytes.{two, four, eight, signed_four}
+use Rattle.posting.specs.Kinds.{kind_of, kind_byte}
 
 abbrev pub opening_fields : OpeningFigures → List ℕ
 opening_fields o = o.members ∷ o.days ∷ (eight o.consumers ++ signed_four o.internal_price)
@@ -40,15 +41,6 @@ figures_fields f =
     signed_four f.imbalance_kwh ++ (activations_fields f.downward ++ (activations_fields f.upward
     ++ (bids_fields f.downward_bid f.upward_bid ++ signed_four f.index)))
 
-abbrev pub kind_of : Posting → ℕ
-kind_of (Opening o) = 0
-kind_of (Schedule e) = 1
-kind_of (Reading e) = 2
-kind_of (Price period price) = 3
-kind_of (Figures period f) = 4
-kind_of (Settle period) = 5
-kind_of (Reopen period) = 6
-
 abbrev pub fields_of : Posting → List ℕ
 fields_of (Opening o) = opening_fields o
 fields_of (Schedule e) = energy_fields e
@@ -58,10 +50,17 @@ fields_of (Figures period f) = two period ++ figures_fields f
 fields_of (Settle period) = two period
 fields_of (Reopen period) = two period
 
--- the kind, then the fields
+-- the byte of the kind, then the fields
 abbrev pub body_of : Posting → List ℕ
-body_of p = kind_of p ∷ fields_of p
+body_of p = kind_byte (kind_of p) ∷ fields_of p
 
--- the length of the body, then the body
+-- the longest body: that of system figures
+abbrev pub longest_body : ℕ
+longest_body = 68
+
+-- the length of a body, then the body
+abbrev pub framed : List ℕ → List ℕ
+framed body = two (length body) ++ body
+
 abbrev pub encoded : Posting → List ℕ
-encoded p = two (length (body_of p)) ++ body_of p
+encoded p = framed (body_of p)

@@ -1,5 +1,5 @@
 -- What some bytes say: the posting whose record stands at their front, or why there is none.
-use Rattle.std.specs.Prelude.{ℕ, zero, suc, ◌+◌, ◌/◌, ◌%◌, Bool, true, false, cond, ◌&&◌, List, [], ◌∷◌, length, take, drop, ℤ, pos, negsuc, Some, None, Ok, Err, Option, Result, ◌==◌, nat_le}
+use Rattle.std.specs.Prelude.{ℕ, zero, suc, ◌+◌, ◌≡◌, ◌≤◌, ◌/◌, ◌%◌, Bool, true, false, cond, List, [], ◌∷◌, length, take, drop, ℤ, pos, negsuc, Some, None, Ok, Err, Option, Result, ◌==◌, nat_le}
 use Rattle.pricing.specs.declared.figures.Activation.{Activation}
 use Rattle.pricing.specs.declared.figures.Activations.{Activations}
 use Rattle.pricing.specs.declared.figures.SystemFigures.{SystemFigures}
@@ -7,13 +7,16 @@ use Rattle.refusal.specs.declared.layer.Layer.TheVariants.{File}
 use Rattle.refusal.specs.declared.reason.Reason.TheVariants.{CutShort, BadRecord}
 use Rattle.refusal.specs.declared.refused.Refusal.{Refusal}
 use Rattle.refusal.specs.Numbers.{naming_nobody}
-use Rattle.std.specs.Option.{option_map}
+use Rattle.std.specs.Option.{option_map, option_and_then}
+use Rattle.posting.specs.declared.kind.Kind.{Kind}
+use Rattle.posting.specs.declared.kind.Kind.TheVariants as kinds
 use Rattle.posting.specs.declared.posting.MemberEnergy.{MemberEnergy}
 use Rattle.posting.specs.declared.posting.Opening.{Opening as OpeningFigures}
 use Rattle.posting.specs.declared.posting.Posting.{Posting}
 use Rattle.posting.specs.declared.posting.Posting.TheVariants.{Opening, Schedule, Reading, Price, Figures, Settle, Reopen}
 use Rattle.posting.specs.declared.reader.Record.{Record}
 use Rattle.posting.specs.Bytes.{byte_at, two_at, four_at, eight_at, signed_at}
+use Rattle.posting.specs.Kinds.{kind_told}
 
 -- ---- the fields of each kind, where there are as many bytes as they take
 
@@ -55,12 +58,28 @@ activations_at fields place = record {
   replacement = activation_at fields (place + 16);
 }
 
+-- bytes of which the first so many say x, and the rest behind them
+pub record Splits {X : Type 0} (bytes : List ℕ) (size : ℕ) (said x : X) (rest : List ℕ) : Type 0 where
+  pub value : x ≡ said
+  pub behind : rest ≡ drop size bytes
+  pub within : size ≤ length bytes
+
 -- a bid that is not flagged is absent, and then only 0 may stand in its place
 abbrev pub bid_in : Bool → ℤ → Option (Option ℤ)
 bid_in true price = Some (Some price)
 bid_in false (pos zero) = Some None
 bid_in false (pos (suc n)) = None
 bid_in false (negsuc n) = None
+
+abbrev pub both : {X Y : Type 0} → Option X → Option Y → Option (X × Y)
+both None y = None
+both (Some x) None = None
+both (Some x) (Some y) = Some (x, y)
+
+-- the downward and the upward bid: of the flags, 1 is for the first and 2 for the second
+abbrev pub bids_in : ℕ → ℤ → ℤ → Option (Option ℤ × Option ℤ)
+bids_in flags downward upward =
+    cond (nat_le flags 3) (both (bid_in (flags % 2 == 1) downward) (bid_in (flags / 2 == 1) upward)) None
 
 abbrev pub figures_at : List ℕ → Option ℤ → Option ℤ → SystemFigures
 figures_at fields downward upward = record {
@@ -72,35 +91,27 @@ figures_at fields downward upward = record {
   index = signed_at fields 63;
 }
 
-abbrev pub figures_with : List ℕ → Option (Option ℤ) → Option (Option ℤ) → Option Posting
-figures_with fields None upward = None
-figures_with fields (Some downward) None = None
-figures_with fields (Some downward) (Some upward) = Some (Figures (two_at fields 0) (figures_at fields downward upward))
-
--- of the flags, 1 is for a downward and 2 for an upward bid
 abbrev pub figures_in : List ℕ → Option Posting
 figures_in fields =
-    cond (length fields == 67 && nat_le (byte_at fields 54) 3)
-    (figures_with fields
-    (bid_in (byte_at fields 54 % 2 == 1) (signed_at fields 55))
-    (bid_in (byte_at fields 54 / 2 == 1) (signed_at fields 59)))
+    cond (length fields == 67)
+    (option_map (λ bids. Figures (two_at fields 0) (figures_at fields bids.0 bids.1))
+    (bids_in (byte_at fields 54) (signed_at fields 55) (signed_at fields 59)))
     None
 
 -- ---- the body
 
-abbrev pub kind_in : ℕ → List ℕ → Option Posting
-kind_in kind fields =
-    cond (kind == 0) (option_map Opening (opening_in fields))
-    (cond (kind == 1) (option_map Schedule (energy_in fields))
-    (cond (kind == 2) (option_map Reading (energy_in fields))
-    (cond (kind == 3) (price_in fields)
-    (cond (kind == 4) (figures_in fields)
-    (cond (kind == 5) (option_map Settle (period_in fields))
-    (cond (kind == 6) (option_map Reopen (period_in fields)) None))))))
+abbrev pub fields_in : Kind → List ℕ → Option Posting
+fields_in kinds.Opening fields = option_map Opening (opening_in fields)
+fields_in kinds.Schedule fields = option_map Schedule (energy_in fields)
+fields_in kinds.Reading fields = option_map Reading (energy_in fields)
+fields_in kinds.Price fields = price_in fields
+fields_in kinds.Figures fields = figures_in fields
+fields_in kinds.Settle fields = option_map Settle (period_in fields)
+fields_in kinds.Reopen fields = option_map Reopen (period_in fields)
 
 abbrev pub posting_in : List ℕ → Option Posting
 posting_in [] = None
-posting_in (kind ∷ fields) = kind_in kind fields
+posting_in (byte ∷ fields) = option_and_then (λ kind. fields_in kind fields) (kind_told byte)
 
 -- ---- the record
 

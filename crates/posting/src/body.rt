@@ -1,17 +1,142 @@
 // The body of a record on the way to a buffer.
-ghost use Rattle.std.specs.Prelude.{◌≡◌, ◌+◌, ◌≤◌, [], ◌∷◌, length};
-ghost use Rattle.posting.specs.Bytes.{two, four, signed_four};
-ghost use Rattle.posting.specs.Encoding.{opening_fields, energy_fields, activation_fields, activations_fields, flag_of, bids_fields, figures_fields};
-ghost use Rattle.posting.specs.Laws.{ProperOpening, ProperEnergy, ProperActivation, ProperActivations, ProperBid, ProperFigures};
-ghost use Rattle.posting.specs.Drafts.{longest_body, written, Adds};
+ghost use Rattle.std.specs.Prelude.{◌≡◌, ◌+◌, ◌^◌, ◌<◌, ◌≤◌, List, ℕ, [], ◌∷◌, ◌++◌, length};
+ghost use Rattle.posting.specs.Bytes.{two, four, eight, signed_four};
+ghost use Rattle.posting.specs.Encoding.{longest_body, opening_fields, energy_fields, activation_fields, activations_fields, flag_of, bids_fields, figures_fields, body_of};
+ghost use Rattle.posting.specs.Laws.{FitsFour, ProperOpening, ProperEnergy, ProperActivation, ProperActivations, ProperBid, ProperFigures, Proper};
 
-use crate::posting::{MemberEnergy, Opening};
+use crate::posting::{MemberEnergy, Opening, Posting};
+use arrayvec::ArrayVec;
 use pricing::{Activation, Activations, SystemFigures};
 
 // The longest body: that of system figures.
 const LONGEST_BODY: usize = 68;
 
-// A bid that is there counts this much in the flags.
+// The bytes that are written.
+pub(crate) type Body = ArrayVec<u8, LONGEST_BODY>;
+
+fn put_bytes(bytes: &[u8], body: &mut Body)
+    requires { length body.old.items + length bytes.now ≤ longest_body }
+    ensures adds { body.new.items ≡ body.old.items ++ bytes.now }
+    ensures size { length body.new.items ≡ length body.old.items + length bytes.now }
+{
+    body.try_extend_from_slice(bytes).unwrap();
+}
+
+// What stands in a body: a number, or several fields one after the other.
+pub(crate) trait Field {
+    ghost bytes: { Self → List ℕ };
+
+    // that it fits its bytes, as every value of the program's types does
+    ghost Fits: { Self → Type 0 };
+
+    // Puts the bytes behind what is written.
+    fn put(&self, body: &mut Body)
+        requires { length body.old.items + length (bytes self.now) ≤ longest_body }
+        ensures adds { body.new.items ≡ body.old.items ++ bytes self.now }
+        ensures size { length body.new.items ≡ length body.old.items + length (bytes self.now) }
+        ensures fits { Fits self.now };
+}
+
+// Each width has an impl of its own: a bound that has a number's bytes has not its range.
+impl Field for u8 {
+    ghost bytes = { λ n. n ∷ [] };
+
+    ghost Fits = { λ n. n < 2 ^ 8 };
+
+    fn put(&self, body: &mut Body) {
+        put_bytes(&[*self], body);
+    }
+}
+
+impl Field for u16 {
+    ghost bytes = { two };
+
+    ghost Fits = { λ n. n < 2 ^ 16 };
+
+    fn put(&self, body: &mut Body) {
+        put_bytes(&self.to_be_bytes(), body);
+    }
+}
+
+impl Field for u32 {
+    ghost bytes = { four };
+
+    ghost Fits = { λ n. n < 2 ^ 32 };
+
+    fn put(&self, body: &mut Body) {
+        put_bytes(&self.to_be_bytes(), body);
+    }
+}
+
+impl Field for u64 {
+    ghost bytes = { eight };
+
+    ghost Fits = { λ n. n < 2 ^ 64 };
+
+    fn put(&self, body: &mut Body) {
+        put_bytes(&self.to_be_bytes(), body);
+    }
+}
+
+impl Field for i32 {
+    ghost bytes = { signed_four };
+
+    ghost Fits = { FitsFour };
+
+    fn put(&self, body: &mut Body) {
+        put_bytes(&self.to_be_bytes(), body);
+    }
+}
+
+impl Field for Opening {
+    ghost bytes = { opening_fields };
+
+    ghost Fits = { λ o. ProperOpening o };
+
+    fn put(&self, body: &mut Body) {
+        self.members.put(body);
+        self.days.put(body);
+        self.consumers.put(body);
+        self.internal_price.put(body);
+    }
+}
+
+impl Field for MemberEnergy {
+    ghost bytes = { energy_fields };
+
+    ghost Fits = { λ e. ProperEnergy e };
+
+    fn put(&self, body: &mut Body) {
+        self.member.put(body);
+        self.period.put(body);
+        self.kwh.put(body);
+    }
+}
+
+impl Field for Activation {
+    ghost bytes = { activation_fields };
+
+    ghost Fits = { λ a. ProperActivation a };
+
+    fn put(&self, body: &mut Body) {
+        self.kwh.put(body);
+        self.price.put(body);
+    }
+}
+
+impl Field for Activations {
+    ghost bytes = { activations_fields };
+
+    ghost Fits = { λ a. ProperActivations a };
+
+    fn put(&self, body: &mut Body) {
+        self.automatic.put(body);
+        self.manual.put(body);
+        self.replacement.put(body);
+    }
+}
+
+// A bid that is there counts this much in the flags: numbers, since the format of records has them.
 const DOWNWARD_FLAG: u8 = 1;
 
 const UPWARD_FLAG: u8 = 2;
@@ -26,131 +151,67 @@ fn flag_of(weight: u8, bid: Option<i32>) -> u8
     }
 }
 
-// A body on the way: the first bytes are written, the others are not.
 #[derive(Clone, Copy)]
-pub(crate) struct Body {
-    bytes: [u8; LONGEST_BODY],
-    size: usize,
+struct Bids {
+    downward: Option<i32>,
+    upward: Option<i32>,
 }
 
-impl Body {
-    // A body of which only the kind is written.
-    pub(crate) fn of_kind(kind: u8) -> Body
-        ensures bytes { written result ≡ kind ∷ [] }
-        ensures size { result.size ≡ 1 }
-    {
-        let mut bytes = [0; LONGEST_BODY];
-        bytes[0] = kind;
-        Body { bytes, size: 1 }
-    }
+impl Field for Bids {
+    ghost bytes = { λ b. bids_fields b.downward b.upward };
 
-    // Puts a field behind what is written.
-    fn put(&mut self, field: &[u8])
-        requires { self.old.size + length field.now ≤ longest_body }
-        ensures { Adds field.now self.old self.new }
-    {
-        let start = self.size;
-        let end = start + field.len();
-        self.bytes[start..end].copy_from_slice(field);
-        self.size = end;
-    }
-
-    fn put_byte(&mut self, byte: u8)
-        requires { self.old.size + 1 ≤ longest_body }
-        ensures { Adds (byte ∷ []) self.old self.new }
-    {
-        self.put(&[byte]);
-    }
-
-    pub(crate) fn put_two(&mut self, number: u16)
-        requires { self.old.size + 2 ≤ longest_body }
-        ensures { Adds (two number) self.old self.new }
-    {
-        self.put(&number.to_be_bytes());
-    }
-
-    fn put_four(&mut self, number: u32)
-        requires { self.old.size + 4 ≤ longest_body }
-        ensures { Adds (four number) self.old self.new }
-    {
-        self.put(&number.to_be_bytes());
-    }
-
-    pub(crate) fn put_signed(&mut self, number: i32)
-        requires { self.old.size + 4 ≤ longest_body }
-        ensures { Adds (signed_four number) self.old self.new }
-    {
-        self.put(&number.to_be_bytes());
-    }
-
-    pub(crate) fn put_opening(&mut self, opening: &Opening)
-        requires { self.old.size + 14 ≤ longest_body }
-        ensures adds { Adds (opening_fields opening.now) self.old self.new }
-        ensures proper { ProperOpening opening.now }
-    {
-        self.put_byte(opening.members);
-        self.put_byte(opening.days);
-        self.put(&opening.consumers.to_be_bytes());
-        self.put_signed(opening.internal_price);
-    }
-
-    pub(crate) fn put_energy(&mut self, energy: &MemberEnergy)
-        requires { self.old.size + 7 ≤ longest_body }
-        ensures adds { Adds (energy_fields energy.now) self.old self.new }
-        ensures proper { ProperEnergy energy.now }
-    {
-        self.put_byte(energy.member);
-        self.put_two(energy.period);
-        self.put_four(energy.kwh);
-    }
-
-    fn put_activation(&mut self, activation: &Activation)
-        requires { self.old.size + 8 ≤ longest_body }
-        ensures adds { Adds (activation_fields activation.now) self.old self.new }
-        ensures proper { ProperActivation activation.now }
-    {
-        self.put_four(activation.kwh);
-        self.put_signed(activation.price);
-    }
-
-    fn put_activations(&mut self, activations: &Activations)
-        requires { self.old.size + 24 ≤ longest_body }
-        ensures adds { Adds (activations_fields activations.now) self.old self.new }
-        ensures proper { ProperActivations activations.now }
-    {
-        self.put_activation(&activations.automatic);
-        self.put_activation(&activations.manual);
-        self.put_activation(&activations.replacement);
-    }
+    ghost Fits = { λ b. ProperBid b.downward × ProperBid b.upward };
 
     // The flags, then the bids.
-    fn put_bids(&mut self, downward: Option<i32>, upward: Option<i32>)
-        requires { self.old.size + 9 ≤ longest_body }
-        ensures adds { Adds (bids_fields downward upward) self.old self.new }
-        ensures proper { ProperBid downward × ProperBid upward }
-    {
-        let flags = flag_of(DOWNWARD_FLAG, downward) + flag_of(UPWARD_FLAG, upward);
-        self.put_byte(flags);
-        self.put_signed(downward.unwrap_or(0));
-        self.put_signed(upward.unwrap_or(0));
+    fn put(&self, body: &mut Body) {
+        let flags = flag_of(DOWNWARD_FLAG, self.downward) + flag_of(UPWARD_FLAG, self.upward);
+        flags.put(body);
+        self.downward.unwrap_or(0).put(body);
+        self.upward.unwrap_or(0).put(body);
     }
+}
 
-    pub(crate) fn put_figures(&mut self, figures: &SystemFigures)
-        requires { self.old.size + 65 ≤ longest_body }
-        ensures adds { Adds (figures_fields figures.now) self.old self.new }
-        ensures proper { ProperFigures figures.now }
-    {
-        self.put_signed(figures.imbalance_kwh);
-        self.put_activations(&figures.downward);
-        self.put_activations(&figures.upward);
-        self.put_bids(figures.downward_bid, figures.upward_bid);
-        self.put_signed(figures.index);
+impl Field for SystemFigures {
+    ghost bytes = { figures_fields };
+
+    ghost Fits = { λ f. ProperFigures f };
+
+    fn put(&self, body: &mut Body) {
+        self.imbalance_kwh.put(body);
+        self.downward.put(body);
+        self.upward.put(body);
+        let bids = Bids {
+            downward: self.downward_bid,
+            upward: self.upward_bid,
+        };
+        bids.put(body);
+        self.index.put(body);
     }
+}
 
-    pub(crate) fn written(&self) -> &[u8]
-        requires { self.now.size ≤ longest_body }
-        ensures { result.now ≡ written self.now }
-    {
-        &self.bytes[0..self.size]
+impl Field for Posting {
+    ghost bytes = { body_of };
+
+    ghost Fits = { Proper };
+
+    // The kind, then the fields.
+    fn put(&self, body: &mut Body) {
+        let kind = self.kind() as u8;
+        kind.put(body);
+        match self {
+            Posting::Opening(opening) => opening.put(body),
+            Posting::Schedule(energy) => energy.put(body),
+            Posting::Reading(energy) => energy.put(body),
+            Posting::Price { period, price } => {
+                period.put(body);
+                price.put(body);
+            }
+            Posting::Figures { period, figures } => {
+                period.put(body);
+                figures.put(body);
+            }
+            Posting::Settle { period } => period.put(body),
+            Posting::Reopen { period } => period.put(body),
+        }
     }
 }

@@ -1,7 +1,6 @@
 // The fields of a record's body, read from its bytes; nothing where there are not as many bytes as the kind has.
-ghost use Rattle.std.specs.Prelude.{◌≡◌, ◌+◌, ◌≤◌, length};
-ghost use Rattle.posting.specs.Bytes.{two_at, four_at, signed_at};
-ghost use Rattle.posting.specs.Reading.{opening_in, energy_in, price_in, period_in, activation_at, activations_at, bid_in, figures_with, figures_in};
+ghost use Rattle.std.specs.Prelude.{◌≡◌, ◌<◌, length, MatchOption};
+ghost use Rattle.posting.specs.Reading.{opening_in, energy_in, price_in, period_in, Splits, activation_at, activations_at, bid_in, bids_in, figures_in};
 
 use crate::posting::{MemberEnergy, Opening, Posting};
 use pricing::{Activation, Activations, SystemFigures};
@@ -74,44 +73,33 @@ pub(crate) fn period_of(fields: &[u8]) -> Option<u16>
     Some(u16::from_be_bytes([*p1, *p0]))
 }
 
-fn u32_at(fields: &[u8], place: usize) -> u32
-    requires { place + 4 ≤ length fields.now }
-    ensures { result ≡ four_at fields.now place }
+// The activation at the front of some bytes, and what is behind it.
+fn split_activation(bytes: &[u8]) -> Option<(Activation, &[u8])>
+    ensures { MatchOption result (length bytes.now < 8) (λ split. Splits bytes.now 8 (activation_at bytes.now 0) split.0 split.1.now) }
 {
-    u32::from_be_bytes([
-        fields[place],
-        fields[place + 1],
-        fields[place + 2],
-        fields[place + 3],
-    ])
+    let [e3, e2, e1, e0, v3, v2, v1, v0, rest @ ..] = bytes else {
+        return None;
+    };
+    let activation = Activation {
+        kwh: u32::from_be_bytes([*e3, *e2, *e1, *e0]),
+        price: i32::from_be_bytes([*v3, *v2, *v1, *v0]),
+    };
+    Some((activation, rest))
 }
 
-fn i32_at(fields: &[u8], place: usize) -> i32
-    requires { place + 4 ≤ length fields.now }
-    ensures { result ≡ signed_at fields.now place }
+// The activations of one direction at the front of some bytes, and what is behind them.
+fn split_activations(bytes: &[u8]) -> Option<(Activations, &[u8])>
+    ensures { MatchOption result (length bytes.now < 24) (λ split. Splits bytes.now 24 (activations_at bytes.now 0) split.0 split.1.now) }
 {
-    u32_at(fields, place).cast_signed()
-}
-
-fn activation_at(fields: &[u8], place: usize) -> Activation
-    requires { place + 8 ≤ length fields.now }
-    ensures { result ≡ activation_at fields.now place }
-{
-    Activation {
-        kwh: u32_at(fields, place),
-        price: i32_at(fields, place + 4),
-    }
-}
-
-fn activations_at(fields: &[u8], place: usize) -> Activations
-    requires { place + 24 ≤ length fields.now }
-    ensures { result ≡ activations_at fields.now place }
-{
-    Activations {
-        automatic: activation_at(fields, place),
-        manual: activation_at(fields, place + 8),
-        replacement: activation_at(fields, place + 16),
-    }
+    let (automatic, rest) = split_activation(bytes)?;
+    let (manual, rest) = split_activation(rest)?;
+    let (replacement, rest) = split_activation(rest)?;
+    let activations = Activations {
+        automatic,
+        manual,
+        replacement,
+    };
+    Some((activations, rest))
 }
 
 // The bid that stands in a record, absent where it is not flagged; nothing where another number than 0 stands for an absent
@@ -126,44 +114,44 @@ fn bid_of(flagged: bool, price: i32) -> Option<Option<i32>>
     }
 }
 
-// Where the fields of system figures stand; the period is first.
-const IMBALANCE_AT: usize = 2;
-
-const DOWNWARD_AT: usize = 6;
-
-const UPWARD_AT: usize = 30;
-
-const FLAGS_AT: usize = 54;
-
-const DOWNWARD_BID_AT: usize = 55;
-
-const UPWARD_BID_AT: usize = 59;
-
-const INDEX_AT: usize = 63;
-
-const FIGURES_SIZE: usize = 67;
-
-// The largest flags: both bids are there.
+// The largest flags: both bids are there. A number, since the format of records has it.
 const BOTH_FLAGS: u8 = 3;
+
+// The bids, from their flags and what stands for each; nothing where flags and bids do not agree.
+fn bids_of(flags: u8, downward: i32, upward: i32) -> Option<(Option<i32>, Option<i32>)>
+    ensures { result ≡ bids_in flags downward upward }
+{
+    if flags > BOTH_FLAGS {
+        return None;
+    }
+    let downward_bid = bid_of(flags % 2 == 1, downward)?;
+    let upward_bid = bid_of(flags / 2 == 1, upward)?;
+    Some((downward_bid, upward_bid))
+}
 
 // The period and the published figures; nothing also where flags and bids do not agree.
 pub(crate) fn figures_of(fields: &[u8]) -> Option<Posting>
     ensures { result ≡ figures_in fields.now }
 {
-    if fields.len() != FIGURES_SIZE || fields[FLAGS_AT] > BOTH_FLAGS {
+    let [p1, p0, k3, k2, k1, k0, rest @ ..] = fields else {
         return None;
-    }
-    let flags = fields[FLAGS_AT];
-    let downward_bid = bid_of(flags % 2 == 1, i32_at(fields, DOWNWARD_BID_AT))?;
-    let upward_bid = bid_of(flags / 2 == 1, i32_at(fields, UPWARD_BID_AT))?;
+    };
+    let (downward, rest) = split_activations(rest)?;
+    let (upward, rest) = split_activations(rest)?;
+    let [flags, d3, d2, d1, d0, u3, u2, u1, u0, x3, x2, x1, x0] = rest else {
+        return None;
+    };
+    let downward_price = i32::from_be_bytes([*d3, *d2, *d1, *d0]);
+    let upward_price = i32::from_be_bytes([*u3, *u2, *u1, *u0]);
+    let (downward_bid, upward_bid) = bids_of(*flags, downward_price, upward_price)?;
     let figures = SystemFigures {
-        imbalance_kwh: i32_at(fields, IMBALANCE_AT),
-        downward: activations_at(fields, DOWNWARD_AT),
-        upward: activations_at(fields, UPWARD_AT),
+        imbalance_kwh: i32::from_be_bytes([*k3, *k2, *k1, *k0]),
+        downward,
+        upward,
         downward_bid,
         upward_bid,
-        index: i32_at(fields, INDEX_AT),
+        index: i32::from_be_bytes([*x3, *x2, *x1, *x0]),
     };
-    let period = u16::from_be_bytes([fields[0], fields[1]]);
+    let period = u16::from_be_bytes([*p1, *p0]);
     Some(Posting::Figures { period, figures })
 }

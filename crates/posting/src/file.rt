@@ -39,15 +39,7 @@ impl Posting {
     fn is_opening(&self) -> bool
         ensures { result ≡ is_opening self.now }
     {
-        match self {
-            Posting::Opening(_) => true,
-            Posting::Schedule(_)
-            | Posting::Reading(_)
-            | Posting::Price { .. }
-            | Posting::Figures { .. }
-            | Posting::Settle { .. }
-            | Posting::Reopen { .. } => false,
-        }
+        matches!(self, Posting::Opening(_))
     }
 }
 
@@ -55,15 +47,11 @@ impl Posting {
 fn record_in_turn(bytes: &[u8], opened: bool, place: usize) -> Result<Record, Refusal>
     ensures { result ≡ placed_record opened place (record_in bytes.now) }
 {
-    match read_record(bytes) {
-        Ok(record) => {
-            if record.posting.is_opening() == opened {
-                return Err(Refusal::naming_nobody(Reason::BadRecord, Layer::File).at_place(place));
-            }
-            Ok(record)
-        }
-        Err(refusal) => Err(refusal.at_place(place)),
+    let record = read_record(bytes).map_err(|refusal| refusal.at_place(place))?;
+    if record.posting.is_opening() == opened {
+        return Err(Refusal::naming_nobody(Reason::BadRecord, Layer::File).at_place(place));
     }
+    Ok(record)
 }
 
 impl<'a> Postings<'a> {
@@ -92,6 +80,7 @@ impl<'a> Postings<'a> {
             self.stage = Stage::Ended;
             return None;
         }
+        // Each arm says both what is given and where the walk is left, which neither `?` nor `map` would.
         match record_in_turn(&file[place..], opened, place) {
             Ok(Record { posting, size }) => {
                 self.place = place + size;

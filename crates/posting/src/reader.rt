@@ -1,10 +1,10 @@
 // A record read from the front of some bytes.
 ghost use Rattle.std.specs.Prelude.{◌≡◌};
 ghost use Rattle.posting.specs.Laws.{Reads};
-ghost use Rattle.posting.specs.Reading.{posting_in, record_in};
+ghost use Rattle.posting.specs.Reading.{fields_in, posting_in, record_in};
 
 use crate::fields::{energy_of, figures_of, opening_of, period_of, price_of};
-use crate::kind;
+use crate::kind::Kind;
 use crate::posting::Posting;
 use refusal::{Layer, Reason, Refusal};
 
@@ -15,43 +15,28 @@ pub struct Record {
     pub size: usize,
 }
 
+fn posting_of_kind(kind: Kind, fields: &[u8]) -> Option<Posting>
+    ensures { result ≡ fields_in kind fields.now }
+{
+    match kind {
+        Kind::Opening => opening_of(fields).map(Posting::Opening),
+        Kind::Schedule => energy_of(fields).map(Posting::Schedule),
+        Kind::Reading => energy_of(fields).map(Posting::Reading),
+        Kind::Price => price_of(fields),
+        Kind::Figures => figures_of(fields),
+        Kind::Settle => period_of(fields).map(|period| Posting::Settle { period }),
+        Kind::Reopen => period_of(fields).map(|period| Posting::Reopen { period }),
+    }
+}
+
 // The posting that a body says, if it says one.
 fn posting_of(body: &[u8]) -> Option<Posting>
     ensures { result ≡ posting_in body.now }
 {
-    match body {
-        [kind::OPENING, fields @ ..] => Some(Posting::Opening(opening_of(fields)?)),
-        [kind::SCHEDULE, fields @ ..] => Some(Posting::Schedule(energy_of(fields)?)),
-        [kind::READING, fields @ ..] => Some(Posting::Reading(energy_of(fields)?)),
-        [kind::PRICE, fields @ ..] => price_of(fields),
-        [kind::FIGURES, fields @ ..] => figures_of(fields),
-        [kind::SETTLE, fields @ ..] => Some(Posting::Settle {
-            period: period_of(fields)?,
-        }),
-        [kind::REOPEN, fields @ ..] => Some(Posting::Reopen {
-            period: period_of(fields)?,
-        }),
-        _ => None,
-    }
-}
-
-fn take_record(bytes: &[u8]) -> Result<Record, Refusal>
-    ensures { result ≡ record_in bytes.now }
-{
-    let [high, low, rest @ ..] = bytes else {
-        return Err(Refusal::naming_nobody(Reason::CutShort, Layer::File));
+    let [kind, fields @ ..] = body else {
+        return None;
     };
-    let length = usize::from(u16::from_be_bytes([*high, *low]));
-    if rest.len() < length {
-        return Err(Refusal::naming_nobody(Reason::CutShort, Layer::File));
-    }
-    let Some(posting) = posting_of(&rest[0..length]) else {
-        return Err(Refusal::naming_nobody(Reason::BadRecord, Layer::File));
-    };
-    Ok(Record {
-        posting,
-        size: 2 + length,
-    })
+    posting_of_kind(Kind::try_from(*kind).ok()?, fields)
 }
 
 // The record at the front of some bytes. It is refused with 18 where the bytes end before its length or its body does, else with
@@ -60,5 +45,18 @@ pub fn read_record(bytes: &[u8]) -> Result<Record, Refusal>
     ensures value { result ≡ record_in bytes.now }
     ensures lawful { Reads bytes.now result }
 {
-    take_record(bytes)
+    let [high, low, rest @ ..] = bytes else {
+        return Err(Refusal::naming_nobody(Reason::CutShort, Layer::File));
+    };
+    let length = usize::from(u16::from_be_bytes([*high, *low]));
+    let Some(body) = rest.get(..length) else {
+        return Err(Refusal::naming_nobody(Reason::CutShort, Layer::File));
+    };
+    let Some(posting) = posting_of(body) else {
+        return Err(Refusal::naming_nobody(Reason::BadRecord, Layer::File));
+    };
+    Ok(Record {
+        posting,
+        size: 2 + length,
+    })
 }

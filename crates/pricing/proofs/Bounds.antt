@@ -2,7 +2,7 @@
 use Rattle.std.proofs.Common.{◌≡◌, ℕ, ◌*◌, ◌≤◌, true, ◌&&◌, eqb, leb, ℤ, nat_abs, IfOk, Some, None, Ok, Option, refl, mul-le-mul_right, arith}
 use Rattle.std.proofs.lemmas.Nat.{mul-le}
 use Rattle.std.proofs.lemmas.Int.{ints}
-use Rattle.rounding.proofs.Sizes.{size_of_minus, size_of_product}
+use Rattle.std.proofs.lemmas.Int.{unsigned_abs-mul}
 use Rattle.std.proofs.lemmas.Bool.{and_parts, leb-true, eqb-false, cond_both}
 use Rattle.pricing.specs.declared.figures.Activation.{Activation}
 use Rattle.pricing.specs.declared.figures.Activations.{Activations}
@@ -26,7 +26,7 @@ small a e =
     let near = leb-true (nat_abs a.price) offer_limit p.1 in
     record {
       few = leb-true a.kwh activation_limit p.0;
-      cheap = rw size_of_product (mul-le-mul_right a.kwh near);
+      cheap = rw unsigned_abs-mul (mul-le-mul_right a.kwh near);
     }
 
 pub record AllSmall (a : Activations) : Type 0 where
@@ -73,7 +73,7 @@ pub base_as_candidate : (p : Fraction) → Bounded offer_limit base_grain p → 
 base_as_candidate p b = record { proper = b.proper; fine = omega (arith, b.fine); small = omega (arith, b.small) }
 
 pub size_toward : (side : Side) (amount : ℕ) → nat_abs (toward side amount) ≡ amount
-size_toward Surplus amount = size_of_minus amount
+size_toward Surplus amount = omega (arith, ints)
 size_toward Shortage amount = refl
 
 pub index_bounded : (side : Side) (index : ℤ) → nat_abs index ≤ offer_limit → CandidateBounded (beside_index side index)

@@ -1,4 +1,3 @@
-pub mod Products
 pub mod Bounds
 pub mod Choices
 pub mod Lawfulness

@@ -4,6 +4,7 @@ ghost use Rattle.pricing.specs.Prices.{price_in};
 
 use crate::fraction::Fraction;
 
+// Not the side that a member is on, which has other methods.
 #[derive(Clone, Copy)]
 pub enum Side {
     Surplus,
@@ -65,8 +66,7 @@ impl Derivation {
         ensures { result ≡ price_in self }
     {
         match self {
-            Derivation::Balanced { price } => price,
-            Derivation::Decided { price, .. } => price,
+            Derivation::Balanced { price } | Derivation::Decided { price, .. } => price,
         }
     }
 }

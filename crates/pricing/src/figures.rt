@@ -15,14 +15,14 @@ pub const OFFER_LIMIT: u32 = 3_000_000;
 pub const PRICE_LIMIT: u32 = 30_000_000;
 
 // Balancing energy that was activated, and its price in stotinki per MWh.
-#[derive(Clone, Copy, PartialEq, Eq, Debug)]
+#[derive(Clone, Copy, PartialEq, Eq, Debug, Default)]
 pub struct Activation {
     pub kwh: u32,
     pub price: i32,
 }
 
 // What was activated in one direction, by kind of reserve.
-#[derive(Clone, Copy, PartialEq, Eq, Debug)]
+#[derive(Clone, Copy, PartialEq, Eq, Debug, Default)]
 pub struct Activations {
     pub automatic: Activation,
     pub manual: Activation,
@@ -51,10 +51,7 @@ fn offer_in_range(price: i32) -> bool
 fn bid_in_range(bid: Option<i32>) -> bool
     ensures { result ≡ bid_in_range bid }
 {
-    match bid {
-        Some(price) => offer_in_range(price),
-        None => true,
-    }
+    bid.is_none_or(|price| offer_in_range(price))
 }
 
 impl Activation {

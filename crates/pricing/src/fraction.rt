@@ -9,12 +9,14 @@ pub struct Fraction {
     pub denominator: u64,
 }
 
+// Each width has a product of its own: a trait over widths is no plainer.
 fn product(factor: i64, times: u64) -> i128
     ensures { result ≡ factor *ℤ pos times }
 {
-    factor as i128 * times as i128
+    i128::from(factor) * i128::from(times)
 }
 
+// No PartialOrd: over a denominator of 0, which a caller may write, the comparison is no order.
 impl Fraction {
     // Whether this one is at most the other, where both denominators are above 0.
     pub(crate) fn at_most(self, other: Fraction) -> bool

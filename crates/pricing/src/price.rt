@@ -1,15 +1,15 @@
 // The price of a quarter of an hour, and how it came about.
-ghost use Rattle.std.specs.Prelude.{◌≡◌, ◌≤◌, IfOk, unsigned_abs};
+ghost use Rattle.std.specs.Prelude.{◌≡◌, IfOk};
 ghost use Rattle.pricing.specs.Fractions.{Bounded, to_nearest};
 ghost use Rattle.pricing.specs.Laws.{Lawful};
-ghost use Rattle.pricing.specs.Limits.{base_grain, candidate_grain, imbalance_limit, offer_limit, price_limit};
+ghost use Rattle.pricing.specs.Limits.{candidate_grain, price_limit};
 ghost use Rattle.pricing.specs.Prices.{decided as decided_of, derivation_of, price_of};
 ghost use Rattle.pricing.specs.Stages.{candidates_of};
 
-use crate::derivation::{Base, Derivation, Side};
+use crate::derivation::Derivation;
 use crate::figures::SystemFigures;
 use crate::fraction::Fraction;
-use crate::stages::{base, candidates, decisive};
+use crate::stages::{OffBalance, base};
 use refusal::Reason;
 
 fn whole_price(candidate: Fraction) -> i32
@@ -19,20 +19,19 @@ fn whole_price(candidate: Fraction) -> i32
     candidate.rounded().unwrap() as i32
 }
 
-fn decided(side: Side, imbalance_kwh: u32, index: i32, base: Base) -> Derivation
-    requires few { imbalance_kwh ≤ imbalance_limit }
-    requires near { unsigned_abs index ≤ offer_limit }
-    requires bounded { Bounded offer_limit base_grain base.value }
-    ensures { result ≡ decided_of side imbalance_kwh (candidates_of side imbalance_kwh index base) }
-{
-    let candidates = candidates(side, imbalance_kwh, index, base);
-    let decisive = decisive(side, candidates);
-    Derivation::Decided {
-        side,
-        imbalance_kwh,
-        candidates,
-        stage: decisive.stage,
-        price: whole_price(decisive.value),
+impl OffBalance {
+    fn decided(self) -> Derivation
+        ensures { result ≡ decided_of self.side self.imbalance_kwh (candidates_of self.side self.imbalance_kwh self.index self.base) }
+    {
+        let candidates = self.candidates();
+        let decisive = self.side.decisive(candidates);
+        Derivation::Decided {
+            side: self.side,
+            imbalance_kwh: self.imbalance_kwh,
+            candidates,
+            stage: decisive.stage,
+            price: whole_price(decisive.value),
+        }
     }
 }
 
@@ -50,12 +49,13 @@ pub fn derive(figures: &SystemFigures) -> Result<Derivation, Reason>
     };
     let activations = figures.activations_on(side);
     let base = base(&activations, figures.bid_on(side))?;
-    Ok(decided(
+    let off_balance = OffBalance {
         side,
-        figures.imbalance_kwh.unsigned_abs(),
-        figures.index,
+        imbalance_kwh: figures.imbalance_kwh.unsigned_abs(),
+        index: figures.index,
         base,
-    ))
+    };
+    Ok(off_balance.decided())
 }
 
 // The price of a quarter of an hour.

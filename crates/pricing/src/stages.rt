@@ -1,6 +1,6 @@
 // The four stages of the method.
-ghost use Rattle.std.specs.Prelude.{◌≡◌, ◌*◌, ◌^◌, ◌<◌, ◌≤◌, true, unsigned_abs};
-ghost use Rattle.pricing.specs.Limits.{activations_in_range, base_grain, imbalance_limit, large_imbalance, offer_limit};
+ghost use Rattle.std.specs.Prelude.{◌≡◌, ◌^◌, ◌<◌, ◌≤◌, true, unsigned_abs};
+ghost use Rattle.pricing.specs.Limits.{activations_in_range, base_grain, imbalance_limit, offer_limit};
 ghost use Rattle.pricing.specs.Fractions.{Bounded};
 ghost use Rattle.pricing.specs.Stages.{side_of, activations_on, bid_on, toward as toward_of, activated_kwh, cost as cost_of, activated_cost, base_of, margin_quarters, beside_index, scaled as scaled_of, scaled_if_large, candidates_of, goes_first, preferred as preferred_of, decisive as decisive_of};
 
@@ -8,6 +8,7 @@ use crate::derivation::{Base, Candidate, Candidates, Origin, Side, Stage};
 use crate::figures::{Activation, Activations, SystemFigures};
 use crate::fraction::Fraction;
 use refusal::Reason;
+use std::cmp::Ordering;
 
 // The system imbalance beyond which the base is scaled.
 const LARGE_IMBALANCE_KWH: u32 = 50_000;
@@ -20,15 +21,14 @@ impl SystemFigures {
     pub(crate) fn side(&self) -> Option<Side>
         ensures { result ≡ side_of self.now.imbalance_kwh }
     {
-        if self.imbalance_kwh > 0 {
-            Some(Side::Surplus)
-        } else if self.imbalance_kwh < 0 {
-            Some(Side::Shortage)
-        } else {
-            None
+        match self.imbalance_kwh.cmp(&0) {
+            Ordering::Greater => Some(Side::Surplus),
+            Ordering::Less => Some(Side::Shortage),
+            Ordering::Equal => None,
         }
     }
 
+    // By side, as the bid below is; one picks a struct and one an option, so neither serves for both.
     pub(crate) fn activations_on(&self, side: Side) -> Activations
         ensures { result ≡ activations_on side self.now }
     {
@@ -121,9 +121,7 @@ pub(crate) fn base(activations: &Activations, bid: Option<i32>) -> Result<Base, 
             value,
         });
     }
-    let Some(price) = bid else {
-        return Err(Reason::NoBase);
-    };
+    let price = bid.ok_or(Reason::NoBase)?;
     let value = Fraction {
         numerator: i64::from(price),
         denominator: 1,
@@ -141,71 +139,88 @@ fn margin_quarters(index: i32) -> u64
     u64::from(index.unsigned_abs().max(4 * LEAST_MARGIN))
 }
 
-// Second: the index and its margin, on the side's way.
-fn beside_index(side: Side, index: i32) -> Fraction
-    ensures { result ≡ beside_index side index }
-{
-    Fraction {
-        numerator: 4 * i64::from(index) + side.toward(margin_quarters(index)),
-        denominator: 4,
+// A quarter of an hour in which the system is off balance, with figures in range.
+#[derive(Clone, Copy)]
+pub(crate) struct OffBalance {
+    pub(crate) side: Side,
+    pub(crate) imbalance_kwh: u32,
+    pub(crate) index: i32,
+    pub(crate) base: Base,
+    ghost few: { imbalance_kwh ≤ imbalance_limit },
+    ghost near: { unsigned_abs index ≤ offer_limit },
+    ghost bounded: { Bounded offer_limit base_grain base.value },
+}
+
+impl OffBalance {
+    // Second: the index and its margin, on the side's way.
+    fn beside_index(self) -> Fraction
+        ensures { result ≡ beside_index self.side self.index }
+    {
+        Fraction {
+            numerator: 4 * i64::from(self.index) + self.side.toward(margin_quarters(self.index)),
+            denominator: 4,
+        }
+    }
+
+    // The base's size in proportion to the imbalance.
+    fn scaled(self) -> Fraction
+        ensures { result ≡ scaled_of self.side self.imbalance_kwh self.base.value }
+    {
+        let Fraction {
+            numerator,
+            denominator,
+        } = self.base.value;
+        Fraction {
+            numerator: self
+                .side
+                .toward(u64::from(self.imbalance_kwh) * numerator.unsigned_abs()),
+            denominator: u64::from(LARGE_IMBALANCE_KWH) * denominator,
+        }
+    }
+
+    // Third: that only if the imbalance is large.
+    fn scaled_if_large(self) -> Option<Fraction>
+        ensures { result ≡ scaled_if_large self.side self.imbalance_kwh self.base.value }
+    {
+        if self.imbalance_kwh > LARGE_IMBALANCE_KWH {
+            Some(self.scaled())
+        } else {
+            None
+        }
+    }
+
+    pub(crate) fn candidates(self) -> Candidates
+        ensures { result ≡ candidates_of self.side self.imbalance_kwh self.index self.base }
+    {
+        Candidates {
+            base: self.base,
+            index: self.beside_index(),
+            scaled: self.scaled_if_large(),
+        }
     }
 }
 
-fn scaled(side: Side, imbalance_kwh: u32, base: Fraction) -> Fraction
-    requires numerator { imbalance_kwh * unsigned_abs base.numerator < 2 ^ 63 }
-    requires denominator { large_imbalance * base.denominator < 2 ^ 64 }
-    ensures { result ≡ scaled_of side imbalance_kwh base }
-{
-    Fraction {
-        numerator: side.toward(u64::from(imbalance_kwh) * base.numerator.unsigned_abs()),
-        denominator: u64::from(LARGE_IMBALANCE_KWH) * base.denominator,
+impl Side {
+    // Fourth: the least of the candidates at a surplus, the greatest at a shortage.
+    pub(crate) fn decisive(self, candidates: Candidates) -> Candidate
+        ensures { result ≡ decisive_of self candidates }
+    {
+        let base = Candidate {
+            stage: Stage::First,
+            value: candidates.base.value,
+        };
+        let index = Candidate {
+            stage: Stage::Second,
+            value: candidates.index,
+        };
+        let of_two = self.preferred(base, index);
+        let Some(value) = candidates.scaled else {
+            return of_two;
+        };
+        let scaled = Candidate {
+            stage: Stage::Third,
+            value,
+        };
+        self.preferred(of_two, scaled)
     }
-}
-
-// Third: only if the imbalance is large, the base's size in proportion to it.
-fn scaled_if_large(side: Side, imbalance_kwh: u32, base: Fraction) -> Option<Fraction>
-    requires few { imbalance_kwh ≤ imbalance_limit }
-    requires bounded { Bounded offer_limit base_grain base }
-    ensures { result ≡ scaled_if_large side imbalance_kwh base }
-{
-    if imbalance_kwh > LARGE_IMBALANCE_KWH {
-        Some(scaled(side, imbalance_kwh, base))
-    } else {
-        None
-    }
-}
-
-pub(crate) fn candidates(side: Side, imbalance_kwh: u32, index: i32, base: Base) -> Candidates
-    requires few { imbalance_kwh ≤ imbalance_limit }
-    requires bounded { Bounded offer_limit base_grain base.value }
-    ensures { result ≡ candidates_of side imbalance_kwh index base }
-{
-    Candidates {
-        base,
-        index: beside_index(side, index),
-        scaled: scaled_if_large(side, imbalance_kwh, base.value),
-    }
-}
-
-// Fourth: the least of the candidates at a surplus, the greatest at a shortage.
-pub(crate) fn decisive(side: Side, candidates: Candidates) -> Candidate
-    ensures { result ≡ decisive_of side candidates }
-{
-    let base = Candidate {
-        stage: Stage::First,
-        value: candidates.base.value,
-    };
-    let index = Candidate {
-        stage: Stage::Second,
-        value: candidates.index,
-    };
-    let of_two = side.preferred(base, index);
-    let Some(value) = candidates.scaled else {
-        return of_two;
-    };
-    let scaled = Candidate {
-        stage: Stage::Third,
-        value,
-    };
-    side.preferred(of_two, scaled)
 }

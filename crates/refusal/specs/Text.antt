@@ -1,11 +1,12 @@
 -- How a refusal is told to a person.
-use Rattle.std.specs.Prelude.{ℕ, cond, List, [], ◌++◌, Some, None, codes, decimal, Option, nat_lt}
+use Rattle.std.specs.Prelude.{ℕ, List, [], ◌++◌, Some, None, codes, decimal, Option}
+use Rattle.std.specs.Option.{option_map}
 use Rattle.refusal.specs.declared.layer.Layer.{Layer}
 use Rattle.refusal.specs.declared.layer.Layer.TheVariants.{File, Run, Rule, Ceiling, Seal, Book, Directory}
 use Rattle.refusal.specs.declared.reason.Reason.{Reason}
 use Rattle.refusal.specs.declared.reason.Reason.TheVariants.{WrongLength, LedgerOutOfRange, BookTooSmall, OutsideLimits, NoSuchMember, NoSuchPeriod, PeriodSettled, PeriodNotSettled, FigureOutOfRange, NoBase, NoPrice, EnergyMissing, NoSuchLine, Sealed, AboveCeiling, Full, UnknownVersion, CutShort, BadRecord, OutputTooShort}
 use Rattle.refusal.specs.declared.refused.Refusal.{Refusal}
-use Rattle.refusal.specs.Numbers.{number_of, no_member, no_period}
+use Rattle.refusal.specs.Numbers.{number_of}
 
 abbrev pub layer_name : Layer → List ℕ
 layer_name File = codes "file"
@@ -38,20 +39,23 @@ reason_words CutShort = codes "cut short"
 reason_words BadRecord = codes "bad record"
 reason_words OutputTooShort = codes "output too short"
 
--- whom a refusal names: nothing is said where there is no such member, period or place
-abbrev pub member_text : ℕ → List ℕ
-member_text member = cond (nat_lt member no_member) (codes ", member " ++ decimal member) []
+-- what a refusal tells of a member, a period or a place, by what it is and the text of its number
+abbrev pub told_of : List ℕ → List ℕ → List ℕ
+told_of what number = codes ", " ++ (what ++ (codes " " ++ number))
 
-abbrev pub period_text : ℕ → List ℕ
-period_text period = cond (nat_lt period no_period) (codes ", period " ++ decimal period) []
+-- nothing is told where there is none
+abbrev pub told : List ℕ → Option ℕ → List ℕ
+told what None = []
+told what (Some number) = told_of what (decimal number)
 
-abbrev pub place_text : Option ℕ → List ℕ
-place_text None = []
-place_text (Some place) = codes ", byte " ++ decimal place
+-- the same of a number of any type, by how its text is written
+abbrev pub told_if_any : {N : Type 0} → (N → Option (List ℕ)) → List ℕ → Option N → Option (List ℕ)
+told_if_any written what None = Some []
+told_if_any written what (Some number) = option_map (told_of what) (written number)
 
 -- as in 'refused 12: an energy missing (run, member 3, period 17)'
 abbrev pub refusal_text : Refusal → List ℕ
 refusal_text r =
     codes "refused " ++ (decimal (number_of r.reason) ++ (codes ": " ++ (reason_words r.reason
-    ++ (codes " (" ++ (layer_name r.layer ++ (member_text r.member ++ (period_text r.period
-    ++ (place_text r.place ++ codes ")"))))))))
+    ++ (codes " (" ++ (layer_name r.layer ++ (told (codes "member") r.concern.member ++ (told (codes "period") r.concern.period
+    ++ (told (codes "byte") r.place ++ codes ")"))))))))

@@ -16,7 +16,7 @@ pub enum Layer {
 }
 
 impl Layer {
-    // The layer's name.
+    // The layer's name, by hand: what a derive prints is promised by no clause.
     pub fn name(self) -> &'static str
         ensures { result.now ≡ layer_name self }
     {

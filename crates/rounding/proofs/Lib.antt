@@ -1,2 +1,1 @@
 pub mod Distances
-pub mod Sizes

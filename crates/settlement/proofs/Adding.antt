@@ -16,7 +16,7 @@ use Rattle.ledger.specs.Judgement.{Held, nothing, periods_of}
 use Rattle.ledger.specs.Marks.{published}
 use Rattle.ledger.proofs.Accounts.{same_account}
 use Rattle.ledger.proofs.Gains.{lawful_period, xs_long, xs_at, y_toward}
-use Rattle.ledger.proofs.Judged.{fitting}
+use Rattle.ledger.proofs.Judging.{fitting}
 use Rattle.ledger.proofs.Known.{no_position, positions_long, positions_at}
 use Rattle.ledger.proofs.Steps.{Figure, inside, outside, money, figure, settle_done, reopen_done, published_is, figures_small}
 use Rattle.posting.specs.declared.posting.MemberEnergy.{MemberEnergy}

@@ -13,7 +13,7 @@ use Rattle.ledger.specs.Judgement.{Held, Roomy, nothing, periods_of, account_in_
 use Rattle.ledger.specs.Marks.{price_at}
 use Rattle.ledger.proofs.Every.{every_from}
 use Rattle.ledger.proofs.Gains.{Modest, gain_modest}
-use Rattle.ledger.proofs.Judged.{fitting, roomy_to}
+use Rattle.ledger.proofs.Judging.{fitting, roomy_to}
 use Rattle.ledger.proofs.Steps.{Figure, inside, outside, money, figure, mark_small}
 use Rattle.posting.specs.declared.posting.Opening.{Opening}
 use Rattle.pricing.specs.Limits.{price_limit}

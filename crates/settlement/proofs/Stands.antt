@@ -11,12 +11,12 @@ use Rattle.energy.specs.Meaning.{Meaning, with_cell}
 use Rattle.ledger.specs.declared.entries.Account.{Account}
 use Rattle.ledger.specs.declared.entries.Mark.{Mark}
 use Rattle.ledger.specs.declared.entries.Mark.TheVariants.{Unpriced, Priced}
-use Rattle.ledger.specs.Answers.{nobody}
+use Rattle.refusal.specs.Numbers.{nobody}
 use Rattle.ledger.specs.Calls.{Opens, Posts, Prices}
 use Rattle.ledger.specs.Energies.{Energies, Sharing, gain, position_of, role_of, schedule_line, reading_line}
 use Rattle.ledger.specs.Judgement.{Held, nothing, periods_of, figures_fit, figures_verdict, mark_in_range}
 use Rattle.ledger.specs.Marks.{Offer, price_at}
-use Rattle.ledger.proofs.Judged.{then_parts, unless_passed}
+use Rattle.ledger.proofs.Judging.{then_parts, unless_passed}
 use Rattle.ledger.proofs.Steps.{Figure, inside, outside, money, figure, signed, is_settled, mark_small, TurnDone, SmallOffer, price_accepted, energy_accepted}
 use Rattle.posting.specs.declared.posting.MemberEnergy.{MemberEnergy}
 use Rattle.posting.specs.declared.posting.Opening.{Opening}

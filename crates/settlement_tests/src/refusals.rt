@@ -1,5 +1,5 @@
 // What is refused, and whom the refusal names; and sheets.
-use crate::steps::{EMPTY, GROUP, energy_of, post_all, refused};
+use crate::steps::{GROUP, energy_of, post_all, refused};
 use books::TableBook;
 use energy::{Book, Seals};
 use posting::{MemberEnergy, Opening};
@@ -14,57 +14,53 @@ use std::test::Fail;
 #[test]
 fn of_openings(rt: HostRuntime) {
     let mut marks = [Mark::Unpriced; 96];
-    let mut accounts = [EMPTY; 4];
+    let mut accounts = [Account::default(); 4];
     let mut ledger = Ledger {
+        opening: GROUP,
         marks: &mut marks,
         accounts: &mut accounts,
     };
-    let fifth_member = Opening {
-        consumers: 16,
-        ..GROUP
-    };
+    ledger.opening.consumers = 16;
     assert_eq!(rt;
-        open(&fifth_member, &mut ledger),
+        open(&mut ledger),
         refused(Reason::OutsideLimits, 64, 65_535)
     );
-    let two_days = Opening { days: 2, ..GROUP };
-    assert_eq!(rt;
-        open(&two_days, &mut ledger),
-        refused(Reason::WrongLength, 64, 65_535)
-    );
+    ledger.opening = Opening { days: 2, ..GROUP };
+    assert_eq!(rt; open(&mut ledger), refused(Reason::WrongLength, 64, 65_535));
 }
 
 #[test]
 fn of_periods(rt: HostRuntime) -> Result<(), Fail> {
     let rule = &OwnAccount;
     let mut marks = [Mark::Unpriced; 96];
-    let mut accounts = [EMPTY; 4];
+    let mut accounts = [Account::default(); 4];
     let mut ledger = Ledger {
+        opening: GROUP,
         marks: &mut marks,
         accounts: &mut accounts,
     };
     let mut cells = [0; 768];
     let mut book = TableBook::new(&mut cells, 8, 96);
-    open(&GROUP, &mut ledger)?;
+    open(&mut ledger)?;
     assert_eq!(rt;
-        settle(&GROUP, &mut ledger, &book, rule, 96),
+        settle(&mut ledger, &book, rule, 96),
         refused(Reason::NoSuchPeriod, 64, 96)
     );
     assert_eq!(rt;
-        settle(&GROUP, &mut ledger, &book, rule, 0),
+        settle(&mut ledger, &book, rule, 0),
         refused(Reason::NoPrice, 64, 0)
     );
     assert_eq!(rt;
-        reopen(&GROUP, &mut ledger, &book, rule, 0),
+        reopen(&mut ledger, &book, rule, 0),
         refused(Reason::PeriodNotSettled, 64, 0)
     );
-    let answer = post_price(&GROUP, &mut ledger, 0, 30_000_001);
+    let answer = post_price(&mut ledger, 0, 30_000_001);
     assert_eq!(rt; answer, refused(Reason::FigureOutOfRange, 64, 0));
-    post_price(&GROUP, &mut ledger, 0, 30_000_000)?;
-    post_schedule(&GROUP, &ledger, &mut book, energy_of(0, 1))?;
-    post_reading(&GROUP, &ledger, &mut book, energy_of(0, 1))?;
+    post_price(&mut ledger, 0, 30_000_000)?;
+    post_schedule(&ledger, &mut book, energy_of(0, 1))?;
+    post_reading(&ledger, &mut book, energy_of(0, 1))?;
     assert_eq!(rt;
-        settle(&GROUP, &mut ledger, &book, rule, 0),
+        settle(&mut ledger, &book, rule, 0),
         refused(Reason::EnergyMissing, 1, 0)
     );
     Ok(())
@@ -73,21 +69,22 @@ fn of_periods(rt: HostRuntime) -> Result<(), Fail> {
 #[test]
 fn of_postings(rt: HostRuntime) -> Result<(), Fail> {
     let mut marks = [Mark::Unpriced; 96];
-    let mut accounts = [EMPTY; 4];
+    let mut accounts = [Account::default(); 4];
     let mut ledger = Ledger {
+        opening: GROUP,
         marks: &mut marks,
         accounts: &mut accounts,
     };
     let mut cells = [0; 768];
     let mut small = TableBook::new(&mut cells[0..672], 7, 96);
-    open(&GROUP, &mut ledger)?;
-    let answer = post_schedule(&GROUP, &ledger, &mut small, energy_of(0, 1));
+    open(&mut ledger)?;
+    let answer = post_schedule(&ledger, &mut small, energy_of(0, 1));
     assert_eq!(rt; answer, refused(Reason::BookTooSmall, 0, 0));
     let mut book = Seals::new(TableBook::new(&mut cells, 8, 96));
-    let answer = post_schedule(&GROUP, &ledger, &mut book, energy_of(4, 1));
+    let answer = post_schedule(&ledger, &mut book, energy_of(4, 1));
     assert_eq!(rt; answer, refused(Reason::NoSuchMember, 4, 0));
     book.seal(0)?;
-    let answer = post_schedule(&GROUP, &ledger, &mut book, energy_of(3, 1));
+    let answer = post_schedule(&ledger, &mut book, energy_of(3, 1));
     let sealed = Refusal::concerning(Reason::Sealed, Layer::Seal, 3, 0);
     assert_eq!(rt; answer, Err(sealed), "passed up whole");
     Ok(())
@@ -96,13 +93,14 @@ fn of_postings(rt: HostRuntime) -> Result<(), Fail> {
 #[test]
 fn of_a_ledger(rt: HostRuntime) {
     let mut marks = [Mark::Unpriced; 96];
-    let mut accounts = [EMPTY; 4];
+    let mut accounts = [Account::default(); 4];
     accounts[2].money = 100_000_000_000_000_001;
     let mut ledger = Ledger {
+        opening: GROUP,
         marks: &mut marks,
         accounts: &mut accounts,
     };
-    let answer = post_price(&GROUP, &mut ledger, 0, 1);
+    let answer = post_price(&mut ledger, 0, 1);
     assert_eq!(rt; answer, refused(Reason::LedgerOutOfRange, 64, 0));
 }
 
@@ -113,23 +111,16 @@ fn draw<B: Book>(
     inside: &mut [i32],
     outside: &mut [i32],
 ) -> Result<(), Refusal> {
-    draw_sheet(
-        &GROUP,
-        ledger,
-        book,
-        &Proportional::RULE,
-        0,
-        inside,
-        outside,
-    )
+    draw_sheet(ledger, book, &Proportional::RULE, 0, inside, outside)
 }
 
 // The sheet of a priced period writes four entries of each list, and leaves the others.
 #[test]
 fn of_sheets(rt: HostRuntime) -> Result<(), Fail> {
     let mut marks = [Mark::Unpriced; 96];
-    let mut accounts = [EMPTY; 4];
+    let mut accounts = [Account::default(); 4];
     let mut ledger = Ledger {
+        opening: GROUP,
         marks: &mut marks,
         accounts: &mut accounts,
     };
@@ -138,11 +129,11 @@ fn of_sheets(rt: HostRuntime) -> Result<(), Fail> {
     let mut inside = [9; 6];
     let mut outside = [9; 5];
     let mut short = [9; 3];
-    open(&GROUP, &mut ledger)?;
+    open(&mut ledger)?;
     post_all(&ledger, &mut book)?;
     let answer = draw(&ledger, &book, &mut inside, &mut outside);
     assert_eq!(rt; answer, refused(Reason::NoPrice, 64, 0));
-    post_price(&GROUP, &mut ledger, 0, -4_000)?;
+    post_price(&mut ledger, 0, -4_000)?;
     let answer = draw(&ledger, &book, &mut inside, &mut short);
     assert_eq!(rt; answer, refused(Reason::OutputTooShort, 64, 0));
     draw(&ledger, &book, &mut inside, &mut outside)?;

@@ -18,12 +18,6 @@ pub const GROUP: Opening = Opening {
     internal_price: 6_000,
 };
 
-pub const EMPTY: Account = Account {
-    inside_kwh: 0,
-    outside_kwh: 0,
-    money: 0,
-};
-
 const NOTHING: Activation = Activation { kwh: 0, price: 0 };
 
 // They give a price of -4,000.
@@ -67,8 +61,8 @@ pub fn post_all<B: Book>(ledger: &Ledger, book: &mut B) -> Result<(), Refusal> {
         (2, 1_000, 2_000),
         (3, 0, 3_000),
     ] {
-        post_schedule(&GROUP, ledger, book, energy_of(member, schedule))?;
-        post_reading(&GROUP, ledger, book, energy_of(member, reading))?;
+        post_schedule(ledger, book, energy_of(member, schedule))?;
+        post_reading(ledger, book, energy_of(member, reading))?;
     }
     Ok(())
 }
@@ -78,13 +72,11 @@ pub type Accounts = [(i64, i64, i64); 4];
 
 pub fn check_accounts(rt: &impl Abort, ledger: &Ledger, expected: Accounts) -> Result<(), Fail> {
     assert!(rt; ledger.accounts.len() == 4);
-    for member in 0..4u8 {
-        let i = usize::from(member);
-        let (inside, outside, stotinki) = expected[i];
-        let account = ledger.accounts[i];
+    let accounts = ledger.accounts.iter().zip(expected);
+    for (member, (account, (inside, outside, stotinki))) in (0..4u8).zip(accounts) {
         assert_eq!(rt; account.inside_kwh, inside);
         assert_eq!(rt; account.outside_kwh, outside);
-        assert_eq!(rt; invoice(&GROUP, ledger, member)?, stotinki);
+        assert_eq!(rt; invoice(ledger, member)?, stotinki);
     }
     Ok(())
 }
@@ -104,25 +96,29 @@ pub fn check_run<B: Book, R: SharingRule>(
     corrected: Accounts,
 ) -> Result<(), Fail> {
     let mut marks = [Mark::Settled(7); 96];
-    let mut accounts = [Account { money: 7, ..EMPTY }; 4];
+    let mut accounts = [Account {
+        money: 7,
+        ..Account::default()
+    }; 4];
     let mut ledger = Ledger {
+        opening: GROUP,
         marks: &mut marks,
         accounts: &mut accounts,
     };
-    open(&GROUP, &mut ledger)?;
+    open(&mut ledger)?;
     post_all(&ledger, book)?;
-    post_figures(&GROUP, &mut ledger, 0, &FIGURES)?;
-    settle(&GROUP, &mut ledger, book, rule, 0)?;
+    post_figures(&mut ledger, 0, &FIGURES)?;
+    settle(&mut ledger, book, rule, 0)?;
     check_accounts(rt, &ledger, first)?;
     let correction = energy_of(3, 2_000);
     assert_eq!(rt;
-        post_reading(&GROUP, &ledger, book, correction),
+        post_reading(&ledger, book, correction),
         refused(Reason::PeriodSettled, 3, 0)
     );
-    reopen(&GROUP, &mut ledger, book, rule, 0)?;
+    reopen(&mut ledger, book, rule, 0)?;
     check_accounts(rt, &ledger, [(0, 0, 0); 4])?;
-    post_reading(&GROUP, &ledger, book, correction)?;
-    post_price(&GROUP, &mut ledger, 0, 5_000)?;
-    settle(&GROUP, &mut ledger, book, rule, 0)?;
+    post_reading(&ledger, book, correction)?;
+    post_price(&mut ledger, 0, 5_000)?;
+    settle(&mut ledger, book, rule, 0)?;
     check_accounts(rt, &ledger, corrected)
 }

@@ -3,7 +3,5 @@ pub mod Amounts
 pub mod Energies
 pub mod Keeping
 pub mod Netted
-pub mod Orders
 pub mod Proportions
 pub mod Weights
-pub mod Writing

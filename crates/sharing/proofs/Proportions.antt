@@ -1,13 +1,11 @@
 -- Shares in proportion: each is within one of the exact share, and the loop writes them.
-use Rattle.std.specs.Prelude.{◌≡◌, ℕ, zero, suc, ◌+◌, ◌-◌, ◌*◌, ◌/◌, ◌<◌, ◌≤◌, List, [], ◌∷◌, ◌++◌, length, take, drop, sum, slice_index, slice_set, refl}
+use Rattle.std.specs.Prelude.{◌≡◌, ℕ, zero, suc, ◌+◌, ◌-◌, ◌*◌, ◌/◌, ◌<◌, ◌≤◌, List, [], ◌∷◌, length, drop, sum, slice_index, refl}
 use Rattle.std.proofs.Common.{ap, ◌∙◌, arith, mul-add, add-mul}
 use Rattle.std.proofs.Math.Nat.{div-zero}
-use Rattle.std.proofs.lemmas.Nat.{div-add-mod', mod_below, mul-le}
-use Rattle.std.proofs.lemmas.List.{drop-set-lt}
+use Rattle.std.proofs.lemmas.Nat.{div-add-mod', mod_below}
 use Rattle.std.proofs.lemmas.List.Sums.{sum_by-drop_more}
 use Rattle.sharing.specs.Proportional.{shares_after, NearShare}
 use Rattle.sharing.specs.Kept.Amounts.{sum_cons}
-use Rattle.sharing.proofs.Writing.{rewrite_more}
 use Rattle.sharing.specs.Kept.Proportions.{floor_grows}
 
 -- a difference of floors is within one of the exact quotient
@@ -40,13 +38,3 @@ module _ (n t u i : ℕ) (ys : List ℕ) (h : i < length ys) (inv : u + sum (dro
 
   pub owned_within : u + slice_index ys i ≤ t
   owned_within = omega (arith, left_more)
-
-  pub owned_more : (v : ℕ) → u + slice_index ys i + sum (drop (i + 1) (slice_set ys i v)) ≡ t
-  owned_more v = rw (drop-set-lt (i + 1) ys i v (omega arith)) (omega (arith, left_more))
-
-  pub product_small : n ≤ t → t ≤ 32000000 → n * (u + slice_index ys i) < 18446744073709551616
-  product_small a b = omega (arith, mul-le n (u + slice_index ys i) 32000000 32000000 (omega arith) (omega (arith, owned_within)))
-
-  pub proportion_more : (v : ℕ) → v ≡ n * (u + slice_index ys i) / t - n * u / t
-      → take (i + 1) (slice_set ys i v) ++ shares_after (u + slice_index ys i) n t (drop (i + 1) (slice_set ys i v)) ≡ take i ys ++ shares_after u n t (drop i ys)
-  proportion_more v is = rewrite_more (shares_after u n t) (shares_after (u + slice_index ys i) n t) ys i 0 v h (rw is)

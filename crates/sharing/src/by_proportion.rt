@@ -26,15 +26,15 @@ impl Apportion for ByProportion {
 
     // A difference of floors of running sums: so no kWh is lost to rounding.
     fn apportion(&self, amount: u32, own: &mut [u32]) {
-        let all = total_of(own) as u64;
+        let all = u64::from(total_of(own));
         if all == 0 {
             return;
         }
         let mut owned = 0u64;
         let mut given = 0u64;
         for x in own.iter_mut() {
-            owned += *x as u64;
-            let so_far = amount as u64 * owned / all;
+            owned += u64::from(*x);
+            let so_far = u64::from(amount) * owned / all;
             *x = (so_far - given) as u32;
             given = so_far;
         }

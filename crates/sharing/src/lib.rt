@@ -16,3 +16,4 @@ pub use layers::{FirstThen, OnlyAmong};
 pub use netting::Netting;
 pub use own_account::OwnAccount;
 pub use rule::{MOST_MEMBERS, REST_LIMIT_KWH, SharingRule};
+pub use side::contains;

@@ -15,6 +15,7 @@ pub trait SharingRule {
     ghost meaning: { Self → ℕ → List ℤ → List ℤ };
 
     // Replaces the rests by what the rule makes of them, or refuses and leaves them as they were.
+    // Set and rests stand apart, since a layer cuts the set and hands the rests on.
     fn share(&self, set: u64, rests: &mut [i32]) -> Result<(), Refusal>
         ensures answer { result ≡ verdict rests.old }
         ensures after { rests.new ≡ outcome (meaning self.now set) rests.old };

@@ -3,18 +3,24 @@ ghost use Rattle.std.specs.Prelude.{◌≡◌, ◌<◌, ◌≤◌, length, if◌
 ghost use Rattle.sharing.specs.Rests.{in_set, energy, energies};
 ghost use Rattle.sharing.specs.Verdict.{most_members};
 
+use crate::rule::MOST_MEMBERS;
+use arrayvec::ArrayVec;
+
+// An energy for each member, in member order.
+pub(crate) type Energies = ArrayVec<u32, MOST_MEMBERS>;
+
+// Not the side that a system is on: each crate gives its sides methods of its own, which a shared type could not have.
 #[derive(Clone, Copy)]
 pub(crate) enum Side {
     Surplus,
     Shortage,
 }
 
-// Whether member i is in the set.
-fn contains(set: u64, i: usize) -> bool
-    requires { i < most_members }
-    ensures { result ≡ in_set set i }
+// Whether a member is in a set: bit i of the set says so of member i.
+pub fn contains(set: u64, member: usize) -> bool
+    ensures { result ≡ in_set set member }
 {
-    (set >> i) & 1 == 1
+    member < MOST_MEMBERS && (set >> member) & 1 == 1
 }
 
 impl Side {
@@ -30,7 +36,6 @@ impl Side {
 
     // The energy of member i on this side: none outside the set.
     fn of_member(self, set: u64, i: usize, rest: i32) -> u32
-        requires { i < most_members }
         ensures { result ≡ (if in_set set i then energy self rest else 0) }
     {
         if contains(set, i) {
@@ -40,14 +45,15 @@ impl Side {
         }
     }
 
-    // Lists the energy of each member on this side.
-    pub(crate) fn list(self, set: u64, rests: &[i32], own: &mut [u32])
+    // The energy of each member on this side.
+    pub(crate) fn energies(self, set: u64, rests: &[i32]) -> Energies
         requires few { length rests.now ≤ most_members }
-        requires room { length own.old ≡ length rests.now }
-        ensures { own.new ≡ energies self set rests.now }
+        ensures { result.items ≡ energies self set rests.now }
     {
+        let mut energies = Energies::new();
         for (i, rest) in rests.iter().enumerate() {
-            own[i] = self.of_member(set, i, *rest);
+            energies.push(self.of_member(set, i, *rest));
         }
+        energies
     }
 }

@@ -2,9 +2,9 @@
 ghost use Rattle.std.specs.Prelude.{◌≡◌};
 ghost use Rattle.sheet.specs.Verdict.{position_in_range, positions_verdict, sheet_verdict};
 
-use charging::{ENERGY_LIMIT_KWH, INTERNAL_PRICE_LIMIT, Position};
+use charging::{ENERGY_LIMIT_KWH, INTERNAL_PRICE_LIMIT, Position, Prices};
 use pricing::PRICE_LIMIT;
-use refusal::{Layer, NO_PERIOD, Reason, Refusal};
+use refusal::{Concern, Layer, Reason, Refusal};
 use sharing::MOST_MEMBERS;
 
 // Whether a member's schedule and reading are within the limit.
@@ -20,33 +20,23 @@ fn check_positions(positions: &[Position]) -> Result<(), Refusal>
 {
     for (member, position) in positions.iter().enumerate() {
         if !in_range(*position) {
-            return Err(Refusal::concerning(
-                Reason::FigureOutOfRange,
-                Layer::Run,
-                member,
-                usize::from(NO_PERIOD),
-            ));
+            return Err(Concern::of_member(member).refused(Reason::FigureOutOfRange, Layer::Run));
         }
     }
     Ok(())
 }
 
 // Whether a sheet of so many lines can be drawn.
-pub fn check(
-    internal_price: i32,
-    price: i32,
-    positions: &[Position],
-    room: usize,
-) -> Result<(), Refusal>
-    ensures { result ≡ sheet_verdict internal_price price positions.now room }
+pub fn check(prices: Prices, positions: &[Position], room: usize) -> Result<(), Refusal>
+    ensures { result ≡ sheet_verdict prices.internal prices.outside positions.now room }
 {
     if positions.len() > MOST_MEMBERS || room != positions.len() {
         return Err(Refusal::naming_nobody(Reason::WrongLength, Layer::Run));
     }
-    if internal_price.unsigned_abs() > INTERNAL_PRICE_LIMIT {
+    if prices.internal.unsigned_abs() > INTERNAL_PRICE_LIMIT {
         return Err(Refusal::naming_nobody(Reason::OutsideLimits, Layer::Run));
     }
-    if price.unsigned_abs() > PRICE_LIMIT {
+    if prices.outside.unsigned_abs() > PRICE_LIMIT {
         return Err(Refusal::naming_nobody(Reason::FigureOutOfRange, Layer::Run));
     }
     check_positions(positions)

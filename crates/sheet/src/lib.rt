@@ -6,6 +6,6 @@ mod drawing;
 mod line;
 mod sums;
 
-pub use drawing::draw;
+pub use drawing::{blank_lines, draw};
 pub use line::{SheetLine, Totals};
 pub use sums::totals;

@@ -19,11 +19,11 @@ base-requires c = rw c.activations_on-activations.ensures ((range c).activations
 based : (c : In_ok-base) → Ok c.in_ok-base.base ≡ base_of (activations_on c.in-Some.side c.args.figures.now) (bid_on c.in-Some.side c.args.figures.now)
 based c = c.in_ok-base.ensures ∙ (λ i. base_of (c.activations_on-activations.ensures i) (c.bid_on.ensures i))
 
-pub decided-requires : goal.decided-requires
-decided-requires c =
-    let r = range (goal.at.decided-requires c).After-bid_on in
+pub invariant_of-off_balance : goal.invariant_of-off_balance
+invariant_of-off_balance c =
+    let r = range (goal.at.invariant_of-off_balance c).After-bid_on in
     let bounded : BaseBounded c.in_ok-base.base =
-    subst (λ (o : Result Base Reason). IfOk o BaseBounded) (sym (based (goal.at.decided-requires c).In_ok-base)) (base_of_range c.args.figures.now r c.in-Some.side) in
+    subst (λ (o : Result Base Reason). IfOk o BaseBounded) (sym (based (goal.at.invariant_of-off_balance c).In_ok-base)) (base_of_range c.args.figures.now r c.in-Some.side) in
     record { few = omega (arith, ints, r.imbalance); near = omega (arith, ints, r.index); bounded = bounded }
 
 pub returns : goal.returns

@@ -2,5 +2,5 @@
 use Rattle.settlement.proofs.Rounded.{fair}
 use Rattle.settlement.proofs.bills.invoice.Goals as goal
 
-pub returns : goal.returns
-returns c = record { does = c.invoice_line.ensures; fair = fair _ _ }
+pub returns-clause-fair : goal.returns-clause-fair
+returns-clause-fair c = fair _ _

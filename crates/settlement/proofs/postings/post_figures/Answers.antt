@@ -4,13 +4,8 @@ use Rattle.settlement.specs.Tally.{post_figures}
 use Rattle.settlement.proofs.Ranges.{goes_on}
 use Rattle.settlement.proofs.postings.post_figures.Goals as goal
 
-pub returns : goal.returns
-returns c =
-    let h = c.enter_figures.ensures in
+pub returns-clause-goes_on : goal.returns-clause-goes_on
+returns-clause-goes_on c =
     let p = c.args.period in
     let f = c.args.figures.now in
-    record {
-      does = h.does;
-      same = h.same;
-      goes_on = λ m lawful rule law. goes_on _ rule law (post_figures p f) c.enter_figures.result lawful (λ t run. figured p f run h.does);
-    }
+    λ m lawful rule law. goes_on _ rule law (post_figures p f) c.enter_figures.result lawful (λ t run. figured p f run c.enter_figures.ensures.does)

@@ -4,11 +4,7 @@ use Rattle.settlement.specs.Tally.{post_reading}
 use Rattle.settlement.proofs.Ranges.{goes_on}
 use Rattle.settlement.proofs.postings.post_reading.Goals as goal
 
-pub returns : goal.returns
-returns g c =
-    let h = c.enter_reading.ensures in
-    let lawful = g.B.Book.lawful c.enter_reading.new.book in
-    record {
-      does = h;
-      goes_on = λ rule law. goes_on _ rule law (post_reading c.args.energy) c.enter_reading.result lawful (λ t run. metered c.args.energy run h);
-    }
+pub returns-clause-goes_on : goal.returns-clause-goes_on
+returns-clause-goes_on g c =
+    let lawful = g.met.B.Book.lawful c.enter_reading.new.book in
+    λ rule law. goes_on _ rule law (post_reading c.args.energy) c.enter_reading.result lawful (λ t run. metered c.args.energy run c.enter_reading.ensures)

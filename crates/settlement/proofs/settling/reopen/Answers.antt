@@ -5,16 +5,13 @@ use Rattle.settlement.proofs.Ranges.{goes_on}
 use Rattle.settlement.proofs.Undoing.{undoes}
 use Rattle.settlement.proofs.settling.reopen.Goals as goal
 
-pub returns : goal.returns
-returns g c =
+pub returns-clause-goes_on : goal.returns-clause-goes_on
+returns-clause-goes_on g c =
     let p = c.args.period in
-    let h = c.reopen_period.ensures in
     let rule = c.args.rule.now in
-    let law = g.met.R.SharingRule.lawful rule in
-    let lawful = g.B.Book.lawful c.args.book.now in
-    record {
-      does = h.does;
-      same = h.same;
-      goes_on = goes_on _ (g.R.SharingRule.meaning rule) law (reopen p) c.reopen_period.result lawful (λ t run. reopened p run h.does);
-      undoes = undoes _ (g.R.SharingRule.meaning rule) law (g.B.Book.meaning c.args.book.now) lawful p c.reopen_period.result _ _ h.does;
-    }
+    goes_on _ (g.R.SharingRule.meaning rule) (g.met.R.SharingRule.lawful rule) (reopen p) c.reopen_period.result (g.met.B.Book.lawful c.args.book.now) (λ t run. reopened p run c.reopen_period.ensures.does)
+
+pub returns-clause-undoes : goal.returns-clause-undoes
+returns-clause-undoes g c =
+    let rule = c.args.rule.now in
+    undoes _ (g.R.SharingRule.meaning rule) (g.met.R.SharingRule.lawful rule) (g.B.Book.meaning c.args.book.now) (g.met.B.Book.lawful c.args.book.now) c.args.period c.reopen_period.result _ _ c.reopen_period.ensures.does

@@ -4,13 +4,8 @@ use Rattle.settlement.specs.Tally.{settle}
 use Rattle.settlement.proofs.Ranges.{goes_on}
 use Rattle.settlement.proofs.settling.settle.Goals as goal
 
-pub returns : goal.returns
-returns g c =
+pub returns-clause-goes_on : goal.returns-clause-goes_on
+returns-clause-goes_on g c =
     let p = c.args.period in
-    let h = c.settle_period.ensures in
     let rule = c.args.rule.now in
-    record {
-      does = h.does;
-      same = h.same;
-      goes_on = goes_on _ (g.R.SharingRule.meaning rule) (g.met.R.SharingRule.lawful rule) (settle p) c.settle_period.result (g.B.Book.lawful c.args.book.now) (λ t run. settled p run h.does);
-    }
+    goes_on _ (g.R.SharingRule.meaning rule) (g.met.R.SharingRule.lawful rule) (settle p) c.settle_period.result (g.met.B.Book.lawful c.args.book.now) (λ t run. settled p run c.settle_period.ensures.does)

@@ -6,4 +6,4 @@ pub returns : goal.returns
 returns g c =
     let rule = c.args.rule.now in
     let book = c.args.book.now in
-    accounts_add_up (g.R.SharingRule.meaning rule) (g.met.R.SharingRule.lawful rule) (g.B.Book.meaning book) (g.C.Book.meaning c.args.other.now) (g.B.Book.lawful book)
+    accounts_add_up (g.R.SharingRule.meaning rule) (g.met.R.SharingRule.lawful rule) (g.B.Book.meaning book) (g.C.Book.meaning c.args.other.now) (g.met.B.Book.lawful book)

@@ -1,19 +1,12 @@
--- What the book below refuses is passed up whole.
+-- What the layer lets through does to the book under it what it does to the book below.
 use Rattle.std.proofs.Common.{sym, ap, ◌∙◌}
-use Rattle.std.proofs.lemmas.Result.{err_from_is_err_and}
 use Rattle.energy.specs.Layers.{under_seals}
-use Rattle.energy.proofs.Layering.{seals_verdict, seals_outcome}
+use Rattle.energy.proofs.Layering.{seals_outcome}
 use Rattle.energy.proofs.seals.SealsBook.post.Goals as goal
 
-pub returns-in_err-post : goal.returns-in_err-post
-returns-in_err-post g c =
-    let p = err_from_is_err_and c.from_residual.result c.from_residual.ensures.1 in
-    let below = c.in_err-post.ensures in
-    let own = c.args.self.now.days in
+pub returns-clause-after : goal.returns-clause-after
+returns-clause-after g c =
+    let days = c.args.self.now.days in
     let m = g.B.Book.meaning c.args.self.now.below in
-    let free = sym c.if-sealed_own.ensures in
-    rw (p.1, p.2)
-    (record {
-      answer = below.answer ∙ seals_verdict own m c.args.line c.args.period c.args.kwh free;
-      after = ap (under_seals own) below.after ∙ seals_outcome own m c.args.line c.args.period c.args.kwh free;
-    })
+    ap (under_seals days) c.post.ensures.after
+    ∙ seals_outcome days m c.args.line c.args.period c.args.kwh (sym c.if-sealed_own.ensures)

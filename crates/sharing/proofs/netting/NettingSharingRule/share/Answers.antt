@@ -4,13 +4,9 @@ use Rattle.sharing.specs.Verdict.{verdict}
 use Rattle.sharing.proofs.Netted.{netting_nets_all}
 use Rattle.sharing.proofs.netting.NettingSharingRule.share.Goals as goal
 
-pub returns : goal.returns
-returns g c =
+pub returns-clause-nets_all : goal.returns-clause-nets_all
+returns-clause-nets_all g c =
     let xs = c.args.rests.now in
     let by = c.args.self.now.by in
     let ok : verdict xs ≡ Ok tt = search rules in
-    record {
-      answer = search rules;
-      after = search rules;
-      nets_all = rw c.net.ensures (netting_nets_all (g.P.Apportion.shares by) (g.met.P.Apportion.whole by) c.args.set xs ok);
-    }
+    rw c.net.ensures (netting_nets_all (g.P.Apportion.shares by) (g.met.P.Apportion.whole by) c.args.set xs ok)

@@ -1,5 +1,0 @@
--- The line of a candidate that applied.
-use Rattle.explanation.proofs.report.ScaledLineDisplay.fmt.Goals as goal
-
-pub returns-in-Some-clause-writes : goal.returns-in-Some-clause-writes
-returns-in-Some-clause-writes g c = rw c.in-Some.is c.write.ensures.writes

@@ -1,0 +1,6 @@
+-- Each part of the figures after the other.
+use Rattle.std.proofs.Common.{append_assoc}
+use Rattle.posting.proofs.body.SystemFiguresField.put.Goals as goal
+
+pub returns-clause-adds : goal.returns-clause-adds
+returns-clause-adds c = rw (c.put-5.ensures.adds, c.put-4.ensures.adds, c.put-3.ensures.adds, c.put-2.ensures.adds, c.put.ensures.adds) (simp append_assoc)
