@@ -1,5 +1,8 @@
 -- The worked examples. A row holds if the definition of its kind gives what the row says.
-use Rattle.std.specs.Prelude.{◌≡◌, ℕ, List, [], ◌∷◌, ℤ, pos, negsuc, None, Ok}
+use Rattle.std.specs.Prelude.{◌≡◌, ℕ, List, [], ◌∷◌, map, length, ℤ, pos, negsuc, None, Ok}
+use Rattle.std.specs.List.{range_with_len}
+use Rattle.ledger.specs.declared.entries.Account.{Account}
+use Rattle.ledger.specs.Invoices.{invoice_of}
 use Rattle.pricing.specs.declared.figures.Activation.{Activation}
 use Rattle.pricing.specs.declared.figures.Activations.{Activations}
 use Rattle.pricing.specs.declared.figures.SystemFigures.{SystemFigures}
@@ -42,16 +45,24 @@ with_imbalance imbalance = figures imbalance (two (60000 at pos 4000) (20000 at 
 abbrev pub four_rests : List ℤ
 four_rests = pos 4000 ∷ negsuc 1999 ∷ negsuc 999 ∷ pos 3000 ∷ []
 
+-- ---- accounts, of which only the money matters here, in thousandths of a stotinka
+
+abbrev pub with_money : ℤ → Account
+with_money money = record { inside_kwh = pos 0; outside_kwh = pos 0; money = money }
+
 -- ---- the table; `negsuc 1999` is minus 2,000
 
 pub data Row : Type 0 where
   priced : SystemFigures → ℤ → Row
   -- what a rule nets of these rests, where everybody is in the set
   nets : (ℕ → List ℤ → List ℤ) → List ℤ → List ℤ → Row
+  -- the invoices of members with this money, in stotinki
+  invoices : List ℤ → List ℤ → Row
 
 abbrev pub Holds : Row → Type 0
 Holds (priced f price) = price_of f ≡ Ok price
 Holds (nets rule rests energies) = netted rests (rule everybody rests) ≡ energies
+Holds (invoices money stotinki) = map (invoice_of (map with_money money)) (range_with_len 0 (length money)) ≡ stotinki
 
 abbrev pub HoldsThroughout : List Row → Type 0
 HoldsThroughout [] = Unit {0}
@@ -73,4 +84,6 @@ table =
     -- the shortage of 3,000 is netted whole, and of the surplus as much
     ∷ nets proportional four_rests (pos 1714 ∷ negsuc 1999 ∷ negsuc 999 ∷ pos 1286 ∷ [])
     ∷ nets in_order four_rests (pos 3000 ∷ negsuc 1999 ∷ negsuc 999 ∷ pos 0 ∷ [])
+    -- half a stotinka, and minus one: together minus a half, which is minus one, so the second invoice makes up for the first
+    ∷ invoices (pos 500 ∷ negsuc 999 ∷ []) (pos 1 ∷ negsuc 1 ∷ [])
     ∷ []

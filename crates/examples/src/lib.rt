@@ -9,5 +9,5 @@ pub fn worked_examples() -> usize
     ensures rows { result ≡ length table }
     ensures hold { HoldsThroughout table }
 {
-    8
+    9
 }
