@@ -1,7 +1,7 @@
 // A cell as the key of a listed book.
 ghost use Rattle.std.specs.Prelude.{◌≡◌, ◌<◌};
 ghost use Rattle.energy.specs.Limits.{most_lines, most_periods};
-ghost use Rattle.books.specs.Cells.{cell_exact, cell_spread};
+ghost use Rattle.books.specs.Cells.{same_cell, cell_exact, cell_spread};
 
 use energy::MOST_PERIODS;
 use keyed::Key;
@@ -26,9 +26,15 @@ impl Cell {
 }
 
 impl Key for Cell {
+    ghost same = { same_cell };
+
     ghost spread = { cell_spread };
 
     ghost exact = { cell_exact };
+
+    fn is(&self, other: &Cell) -> bool {
+        *self == *other
+    }
 
     // Neighbouring cells spread to neighbouring numbers.
     fn spread(&self) -> usize {

@@ -1,8 +1,8 @@
 // The table book: one number for each cell, in memory that is handed over.
-ghost use Rattle.std.specs.Prelude.{◌≡◌, ◌+◌, ◌*◌, true, length, is_ok, if◌then◌else◌, slice_set};
+ghost use Rattle.std.specs.Prelude.{◌≡◌, ◌+◌, ◌*◌, true, length, is_ok, if◌then◌else◌, count_by, slice_set};
 ghost use Rattle.energy.specs.Meaning.{book_verdict, book_outcome};
 ghost use Rattle.books.specs.Plain.{fits_if_any};
-ghost use Rattle.books.specs.Table.{kwh_in, fits_table, table_check, table_made, table_memory};
+ghost use Rattle.books.specs.Table.{vacant, kwh_in, fits_table, table_check, table_made, table_memory};
 
 use crate::size::Size;
 use charging::ENERGY_LIMIT_KWH;
@@ -27,6 +27,19 @@ fn kwh_in(number: u32) -> Option<u32>
     ensures { result ≡ kwh_in number }
 {
     (number <= ENERGY_LIMIT_KWH).then_some(number)
+}
+
+// How many numbers say that their cell is empty. By hand: `filter` and `count` take twice the time.
+fn vacancies(cells: &[u32]) -> usize
+    ensures { result ≡ count_by vacant cells.now }
+{
+    let mut count = 0;
+    for number in cells {
+        if *number > ENERGY_LIMIT_KWH {
+            count += 1;
+        }
+    }
+    count
 }
 
 impl<'a> TableBook<'a> {
@@ -109,10 +122,7 @@ impl Book for TableBook<'_> {
         if self.size.is_none() {
             return 0;
         }
-        self.cells
-            .iter()
-            .filter(|number| **number > ENERGY_LIMIT_KWH)
-            .count()
+        vacancies(self.cells)
     }
 
     // Beyond what every book promises: the memory after, of which at most the number of that cell is another.

@@ -22,6 +22,11 @@ abbrev pub and_then : {X Y E : Type 0} → Result X E → (X → Result Y E) →
 and_then (Ok x) next = next x
 and_then (Err e) next = Err e
 
+-- what is known after an entry, or its fault
+abbrev pub left : {X E : Type 0} → Result (Unit {0}) E → X → Result X E
+left (Ok done) known = Ok known
+left (Err e) known = Err e
+
 abbrev pub is_empty : List ℕ → Bool
 is_empty bytes = length bytes == 0
 

@@ -1,5 +1,6 @@
 // What the lines of a description have entered so far.
 ghost use Rattle.std.specs.Prelude.{◌≡◌};
+ghost use Rattle.description.specs.Entries.{left};
 ghost use Rattle.description.specs.Figures.{given_at, direction_after, draft_after, draft_after_line, at_line, activations_of, figures_from, quarter_from};
 
 use crate::entry::{DirectionEntry, Entry, read_line};
@@ -13,7 +14,7 @@ use pricing::{Activation, Activations, SystemFigures};
 const RESERVES: usize = 3;
 
 // A quarter of an hour: the system's figures, and the group where one is listed.
-#[derive(Clone, Drop)]
+#[derive(Clone, Copy)]
 pub struct Quarter {
     pub figures: SystemFigures,
     pub group: Option<Group>,
@@ -42,8 +43,8 @@ fn given(reserves: &[Activation], number: usize) -> Activation
 }
 
 impl Direction {
-    fn with(mut self, entry: DirectionEntry) -> Result<Direction, Fault>
-        ensures { result ≡ direction_after self entry }
+    fn enter(&mut self, entry: DirectionEntry) -> Result<(), Fault>
+        ensures { left result self.new ≡ direction_after self.old entry }
     {
         match entry {
             DirectionEntry::Bid(price) => self.bid = once::given(self.bid, price)?,
@@ -52,7 +53,7 @@ impl Direction {
                 .try_push(activation)
                 .map_err(|_| Fault::Repeated)?,
         }
-        Ok(self)
+        Ok(())
     }
 
     fn activations(&self) -> Activations
@@ -68,32 +69,33 @@ impl Direction {
 }
 
 impl Draft {
-    fn with(mut self, entry: Entry) -> Result<Draft, Fault>
-        ensures { result ≡ draft_after self entry }
+    fn enter(&mut self, entry: Entry) -> Result<(), Fault>
+        ensures { left result self.new ≡ draft_after self.old entry }
     {
         match entry {
             Entry::ImbalanceKwh(kwh) => self.imbalance_kwh = once::given(self.imbalance_kwh, kwh)?,
             Entry::IndexPrice(price) => self.index = once::given(self.index, price)?,
-            Entry::Downward(entry) => self.downward = self.downward.with(entry)?,
-            Entry::Upward(entry) => self.upward = self.upward.with(entry)?,
-            Entry::OfGroup(entry) => self.group = self.group.with(entry)?,
+            Entry::Downward(entry) => self.downward.enter(entry)?,
+            Entry::Upward(entry) => self.upward.enter(entry)?,
+            Entry::OfGroup(entry) => self.group.enter(entry)?,
         }
-        Ok(self)
+        Ok(())
     }
 
-    fn with_entry_of(self, line: &[u8]) -> Result<Draft, Fault>
-        ensures { result ≡ draft_after_line self line.now }
+    fn enter_words(&mut self, line: &[u8]) -> Result<(), Fault>
+        ensures { left result self.new ≡ draft_after_line self.old line.now }
     {
         match read_line(line)? {
-            Some(entry) => self.with(entry),
-            None => Ok(self),
+            Some(entry) => self.enter(entry),
+            None => Ok(()),
         }
     }
 
-    pub(crate) fn with_line(self, number: usize, line: &[u8]) -> Result<Draft, Problem>
-        ensures { result ≡ at_line number (draft_after_line self line.now) }
+    // In place, since a draft has room for the largest group: to hand it on line by line would copy that room each time.
+    pub(crate) fn enter_line(&mut self, number: usize, line: &[u8]) -> Result<(), Problem>
+        ensures { left result self.new ≡ at_line number (draft_after_line self.old line.now) }
     {
-        self.with_entry_of(line)
+        self.enter_words(line)
             .map_err(|fault| Problem::Line { number, fault })
     }
 

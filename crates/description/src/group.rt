@@ -1,29 +1,46 @@
 // The group that a description may list: its internal price and its members.
 ghost use Rattle.std.specs.Prelude.{◌≡◌, ◌≤◌, length};
 ghost use Rattle.sharing.specs.Verdict.{most_members};
+ghost use Rattle.description.specs.Entries.{left};
 ghost use Rattle.description.specs.Group.{listed, one_member_more, group_after, group_from};
 
 use crate::entry::GroupEntry;
 use crate::once;
 use crate::problem::{Fault, Problem};
-use arrayvec::ArrayVec;
 use charging::Position;
 use sharing::MOST_MEMBERS;
 
-// The members of a group, by their numbers, with room for the largest group.
-#[derive(Clone, Default, Drop)]
+// The members of a group, by their numbers: room for the largest group, filled in the order in which they come.
+// An array and a count, since a quarter of an hour can be copied, and a vector of fixed room can not.
+#[derive(Clone, Copy)]
 pub struct Members {
-    positions: ArrayVec<Position, MOST_MEMBERS>,
+    positions: [Position; MOST_MEMBERS],
+    count: usize,
+}
+
+impl Default for Members {
+    ghost use Rattle.description.specs.Group.{no_members};
+
+    ghost is_default = { λ members. members ≡ no_members };
+
+    fn default() -> Members {
+        Members {
+            positions: [Position::default(); MOST_MEMBERS],
+            count: 0,
+        }
+    }
 }
 
 impl Members {
-    fn with(mut self, position: Position) -> Result<Members, Fault>
-        ensures { result ≡ one_member_more self position }
+    fn enter(&mut self, position: Position) -> Result<(), Fault>
+        ensures { left result self.new ≡ one_member_more self.old position }
     {
-        self.positions
-            .try_push(position)
-            .map_err(|_| Fault::Repeated)?;
-        Ok(self)
+        if self.count >= MOST_MEMBERS {
+            return Err(Fault::Repeated);
+        }
+        self.positions[self.count] = position;
+        self.count += 1;
+        Ok(())
     }
 
     // The members, by their numbers.
@@ -31,11 +48,11 @@ impl Members {
         ensures members { result.now ≡ listed self.now }
         ensures few { length result.now ≤ most_members }
     {
-        self.positions.as_slice()
+        &self.positions[0..self.count.min(MOST_MEMBERS)]
     }
 }
 
-#[derive(Clone, Drop)]
+#[derive(Clone, Copy)]
 pub struct Group {
     pub internal_price: i32,
     pub members: Members,
@@ -49,24 +66,24 @@ pub struct GroupDraft {
 }
 
 impl GroupDraft {
-    pub(crate) fn with(mut self, entry: GroupEntry) -> Result<GroupDraft, Fault>
-        ensures { result ≡ group_after self entry }
+    pub(crate) fn enter(&mut self, entry: GroupEntry) -> Result<(), Fault>
+        ensures { left result self.new ≡ group_after self.old entry }
     {
         match entry {
             GroupEntry::InternalPrice(price) => self.internal_price = once::given(
                 self.internal_price,
                 price,
             )?,
-            GroupEntry::Member(position) => self.members = self.members.with(position)?,
+            GroupEntry::Member(position) => self.members.enter(position)?,
         }
-        Ok(self)
+        Ok(())
     }
 
     // None where no member is listed.
     pub(crate) fn group(self) -> Result<Option<Group>, Problem>
         ensures { result ≡ group_from self }
     {
-        if self.members.positions.is_empty() {
+        if self.members.count == 0 {
             return Ok(None);
         }
         let internal_price = self.internal_price.ok_or(Problem::NoInternalPrice)?;

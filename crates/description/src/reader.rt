@@ -10,7 +10,7 @@ pub fn read(text: &[u8]) -> Result<Quarter, Problem>
 {
     let mut draft = Draft::default();
     for (index, line) in text.split(|byte| *byte == b'\n').enumerate() {
-        draft = draft.with_line(index + 1, line)?;
+        draft.enter_line(index + 1, line)?;
     }
     draft.quarter()
 }

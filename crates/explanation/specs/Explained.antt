@@ -1,5 +1,5 @@
 -- What is said of the text that describes a quarter of an hour.
-use Rattle.std.specs.Prelude.{ℕ, List, length, ℤ, IfSome, Some, None, Ok, Err, Option, Result}
+use Rattle.std.specs.Prelude.{ℕ, List, ◌++◌, length, drop, replicate, ℤ, pos, IfSome, Some, None, Ok, Err, Option, Result}
 use Rattle.refusal.specs.declared.layer.Layer.TheVariants.{Run}
 use Rattle.refusal.specs.declared.reason.Reason.{Reason}
 use Rattle.refusal.specs.declared.refused.Refusal.{Refusal}
@@ -8,6 +8,8 @@ use Rattle.refusal.specs.Text.{refusal_text}
 use Rattle.pricing.specs.declared.derivation.Derivation.{Derivation}
 use Rattle.pricing.specs.Prices.{derivation_of, price_in}
 use Rattle.sharing.specs.Proportional.{proportional}
+use Rattle.sharing.specs.Verdict.{most_members}
+use Rattle.sheet.specs.declared.line.SheetLine.{SheetLine}
 use Rattle.sheet.specs.Balance.{AddsUp}
 use Rattle.sheet.specs.Lines.{sheet_of}
 use Rattle.sheet.specs.Verdict.{sheet_verdict}
@@ -25,11 +27,19 @@ use Rattle.explanation.specs.Words.{drawn_lines}
 
 -- ---- the group
 
+-- lines, and blank ones up to the room for the largest group
+abbrev pub blank : SheetLine
+blank = record { imbalance_kwh = pos 0; netted_kwh = pos 0; outside_kwh = pos 0; money = pos 0 }
+
+abbrev pub padded : List SheetLine → List SheetLine
+padded lines = lines ++ drop (length lines) (replicate most_members blank)
+
 -- what the group nets in proportion, drawn as a sheet
 abbrev pub drawn : Group → ℤ → GroupSheet
 drawn group price = record {
   internal_price = group.internal_price;
-  lines = record { items = sheet_of proportional group.internal_price price (listed group.members) };
+  lines = padded (sheet_of proportional group.internal_price price (listed group.members));
+  members = length (listed group.members);
 }
 
 abbrev pub drawn_if : Result (Unit {0}) Refusal → GroupSheet → Result GroupSheet Refusal

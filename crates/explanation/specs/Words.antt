@@ -1,6 +1,6 @@
 -- The report on a quarter of an hour. Of its price: the side that the system is on, each candidate, the one that decided.
 -- Of its group: what each member nets, is left with and is paid.
-use Rattle.std.specs.Prelude.{ℕ, ◌+◌, List, [], ◌∷◌, ◌++◌, ℤ, Some, None, codes, decimal, Option}
+use Rattle.std.specs.Prelude.{ℕ, ◌+◌, min, List, [], ◌∷◌, ◌++◌, take, ℤ, Some, None, codes, decimal, Option}
 use Rattle.std.specs.Fmt.{signed_decimal}
 use Rattle.rounding.specs.Nearest.{rounded}
 use Rattle.pricing.specs.declared.fraction.Fraction.{Fraction}
@@ -13,6 +13,7 @@ use Rattle.pricing.specs.declared.derivation.Stage.{Stage}
 use Rattle.pricing.specs.declared.derivation.Stage.TheVariants.{First, Second, Third}
 use Rattle.pricing.specs.declared.derivation.Derivation.{Derivation}
 use Rattle.pricing.specs.declared.derivation.Derivation.TheVariants.{Balanced, Decided}
+use Rattle.sharing.specs.Verdict.{most_members}
 use Rattle.sheet.specs.declared.line.SheetLine.{SheetLine}
 use Rattle.sheet.specs.declared.line.Totals.{Totals}
 use Rattle.sheet.specs.Sums.{totals_of, widened}
@@ -108,7 +109,7 @@ internal_line price =
     ++ codes " stotinki per MWh. Energy in kWh, money in thousandths of a stotinka.\n")
 
 abbrev pub drawn_lines : GroupSheet → List SheetLine
-drawn_lines sheet = sheet.lines.items
+drawn_lines sheet = take (min sheet.members most_members) sheet.lines
 
 abbrev pub sheet_text : GroupSheet → List ℕ
 sheet_text sheet =

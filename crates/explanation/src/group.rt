@@ -2,18 +2,18 @@
 ghost use Rattle.std.specs.Prelude.{◌≡◌, IfOk};
 ghost use Rattle.explanation.specs.Explained.{group_sheet, SheetAddsUp};
 
-use arrayvec::ArrayVec;
 use charging::Prices;
 use description::Group;
 use refusal::Refusal;
 use sharing::{MOST_MEMBERS, Proportional};
 use sheet::SheetLine;
 
-// The lines of the members, by their numbers, with room for the largest group.
-#[derive(Clone, Drop)]
+// Room for the lines of the largest group, filled by the numbers of the members: an array and a count, so that it can be copied.
+#[derive(Clone, Copy)]
 pub struct GroupSheet {
     pub internal_price: i32,
-    pub lines: ArrayVec<SheetLine, MOST_MEMBERS>,
+    pub lines: [SheetLine; MOST_MEMBERS],
+    pub members: usize,
 }
 
 pub fn draw_sheet(group: &Group, price: i32) -> Result<GroupSheet, Refusal>
@@ -26,11 +26,17 @@ pub fn draw_sheet(group: &Group, price: i32) -> Result<GroupSheet, Refusal>
         outside: price,
     };
     let positions = group.members.positions();
-    let mut lines = ArrayVec::from([SheetLine::default(); MOST_MEMBERS]);
-    lines.truncate(positions.len());
-    sheet::draw(&Proportional::RULE, prices, positions, lines.as_mut_slice())?;
+    let members = positions.len();
+    let mut lines = [SheetLine::default(); MOST_MEMBERS];
+    sheet::draw(
+        &Proportional::RULE,
+        prices,
+        positions,
+        &mut lines[0..members],
+    )?;
     Ok(GroupSheet {
         internal_price,
         lines,
+        members,
     })
 }

@@ -177,7 +177,7 @@ impl fmt::Display for PricePart {
 }
 
 // How the price of a quarter of an hour came about, and the sheet of its group, where one is listed.
-#[derive(Clone, Drop)]
+#[derive(Clone, Copy)]
 pub struct Report {
     pub derivation: Derivation,
     pub sheet: Option<GroupSheet>,

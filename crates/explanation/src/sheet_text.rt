@@ -1,8 +1,9 @@
 // The sheet of a group as text, part by part.
-ghost use Rattle.std.specs.Prelude.{Some};
-ghost use Rattle.explanation.specs.Words.{amounts, member_line, member_lines, total_line, internal_line, sheet_text};
+ghost use Rattle.std.specs.Prelude.{◌≡◌, Some};
+ghost use Rattle.explanation.specs.Words.{amounts, member_line, member_lines, total_line, internal_line, drawn_lines, sheet_text};
 
 use crate::group::GroupSheet;
+use sharing::MOST_MEMBERS;
 use sheet::{SheetLine, Totals, totals};
 use std::fmt;
 
@@ -82,13 +83,21 @@ impl fmt::Display for InternalLine {
     }
 }
 
+impl GroupSheet {
+    fn drawn_lines(&self) -> &[SheetLine]
+        ensures { result.now ≡ drawn_lines self.now }
+    {
+        &self.lines[0..self.members.min(MOST_MEMBERS)]
+    }
+}
+
 impl fmt::Display for GroupSheet {
     ghost output = { λ s. Some (sheet_text s) };
 
     fn fmt<W: fmt::Write>(&self, f: &mut fmt::Formatter<W>) -> fmt::Result {
         let internal = InternalLine(self.internal_price);
-        let lines = MemberLines(self.lines.as_slice());
-        let total = TotalLine(totals(self.lines.as_slice()));
+        let lines = MemberLines(self.drawn_lines());
+        let total = TotalLine(totals(self.drawn_lines()));
         write!(f, "{internal}{lines}{total}")
     }
 }

@@ -42,7 +42,7 @@ impl<'a, K: Key, V: Copy> KeyedList<'a, K, V> {
 
     // An empty list. Nothing is written, whatever the memory holds.
     pub fn new(memory: &'a mut [Entry<K, V>]) -> KeyedList<'a, K, V>
-        ensures made { contents K.eq K.spread result ≡ new_list (length memory.old) }
+        ensures made { contents K.same K.spread result ≡ new_list (length memory.old) }
         ensures memory { result.memory.now ≡ memory.old }
         ensures lent { result.memory.ghost_name ≡ memory.entry.ghost_name }
     {
@@ -62,7 +62,7 @@ impl<K: Key, V: Copy> KeyedList<'_, K, V> {
 
     // How many new keys may still be entered.
     pub fn spare(&self) -> usize
-        ensures { result ≡ (contents K.eq K.spread self.now).spare }
+        ensures { result ≡ (contents K.same K.spread self.now).spare }
     {
         let entries = self.entries();
         if fits(entries) {
@@ -96,7 +96,7 @@ impl<K: Key, V: Copy> KeyedList<'_, K, V> {
 
     // The place of a key's entry.
     fn search(&self, key: &K) -> Option<usize>
-        ensures is { result ≡ place_in K.eq K.spread self.now key.now }
+        ensures is { result ≡ place_in K.same K.spread self.now key.now }
         ensures within { IfSome result (λ place. place < length self.now.memory.now) }
     {
         if !fits(self.entries()) {
@@ -104,7 +104,7 @@ impl<K: Key, V: Copy> KeyedList<'_, K, V> {
         }
         let memory = &*self.memory;
         let mut place = self.newest_from(self.start_of(key))?;
-        while *key != memory[place].key {
+        while !key.is(&memory[place].key) {
             let older = usize::from(memory[place].older);
             if older >= place {
                 return None;
@@ -116,7 +116,7 @@ impl<K: Key, V: Copy> KeyedList<'_, K, V> {
 
     // The content that was entered last under a key.
     pub fn find(&self, key: &K) -> Option<V>
-        ensures { result ≡ (contents K.eq K.spread self.now).under key.now }
+        ensures { result ≡ (contents K.same K.spread self.now).under key.now }
     {
         let place = self.search(key)?;
         Some(self.memory[place].content)
@@ -124,9 +124,9 @@ impl<K: Key, V: Copy> KeyedList<'_, K, V> {
 
     // Appends an entry under a new key, in front of its chain. Its own place may itself be the start of a chain.
     fn append(&mut self, key: K, content: V)
-        requires room { 0 < (contents K.eq K.spread self.old).spare }
-        requires absent { place_in K.eq K.spread self.old key ≡ None }
-        ensures after { contents K.eq K.spread self.new ≡ entered K.eq (contents K.eq K.spread self.old) key content }
+        requires room { 0 < (contents K.same K.spread self.old).spare }
+        requires absent { place_in K.same K.spread self.old key ≡ None }
+        ensures after { contents K.same K.spread self.new ≡ entered K.same (contents K.same K.spread self.old) key content }
         ensures size { length self.new.memory.now ≡ length self.old.memory.now }
         ensures lent { self.new.memory.ghost_name ≡ self.old.memory.ghost_name }
     {
@@ -146,8 +146,8 @@ impl<K: Key, V: Copy> KeyedList<'_, K, V> {
 
     // Enters a content: a key's second replaces its first. Answers `full` for a new key where every entry is used.
     pub fn put<E: Drop>(&mut self, key: K, content: V, full: E) -> Result<(), E>
-        ensures answer { result ≡ put_verdict K.eq (contents K.eq K.spread self.old) key full }
-        ensures after { contents K.eq K.spread self.new ≡ put_outcome K.eq (contents K.eq K.spread self.old) key content }
+        ensures answer { result ≡ put_verdict K.same (contents K.same K.spread self.old) key full }
+        ensures after { contents K.same K.spread self.new ≡ put_outcome K.same (contents K.same K.spread self.old) key content }
         ensures refused { is_ok result ≡ false → self.new.memory.now ≡ self.old.memory.now }
         ensures size { length self.new.memory.now ≡ length self.old.memory.now }
         ensures lent { self.new.memory.ghost_name ≡ self.old.memory.ghost_name }

@@ -1,11 +1,14 @@
 // The reasons for which a call is refused, each with its fixed number.
-ghost use Rattle.std.specs.Prelude.{◌≡◌, Some};
+ghost use Rattle.std.specs.Prelude.{◌≡◌, Some, ◌==◌};
 ghost use Rattle.refusal.specs.Numbers.{number_of};
 ghost use Rattle.refusal.specs.Text.{reason_words};
+ghost use Rattle.std.specs.Cmp.Rules.{comparing};
+ghost use Rattle.std.proofs.Common.{rules};
+ghost use Rattle.std.specs.Cmp as Keys;
 
 use std::fmt;
 
-#[derive(Clone, Copy, PartialEq, Eq, Debug)]
+#[derive(Clone, Copy, Debug)]
 pub enum Reason {
     WrongLength = 1,
     LedgerOutOfRange = 2,
@@ -64,6 +67,21 @@ impl Reason {
             Reason::OutputTooShort => "output too short",
         }
     }
+}
+
+// Reasons are the same if their numbers are. By hand: a derived test compares variants, and says nothing of their numbers.
+impl PartialEq for Reason {
+    ghost eq = { λ one other. (number_of one == number_of other) };
+
+    ghost laws = { Keys.partial_equiv_from_equiv (Prim.search (comparing, rules)) };
+
+    fn eq(&self, other: &Reason) -> bool {
+        self.number() == other.number()
+    }
+}
+
+impl Eq for Reason {
+    ghost laws = { Prim.search (comparing, rules) };
 }
 
 impl fmt::Display for Reason {

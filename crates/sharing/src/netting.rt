@@ -5,7 +5,7 @@ ghost use Rattle.sharing.specs.Verdict.{verdict, outcome, rest_limit};
 ghost use Rattle.sharing.specs.Kept.Netted.{netting_lawful};
 
 use crate::apportion::{Apportion, total_of};
-use crate::rule::{SharingRule, check};
+use crate::rule::{MOST_MEMBERS, SharingRule, check};
 use crate::side::Side;
 use refusal::Refusal;
 
@@ -45,12 +45,17 @@ fn net<P: Apportion>(by: &P, set: u64, rests: &mut [i32])
     requires { verdict rests.old ≡ Ok tt }
     ensures { rests.new ≡ netting (P.Apportion.shares by.now) set rests.old }
 {
-    let mut surplus = Side::Surplus.energies(set, rests);
-    let mut shortage = Side::Shortage.energies(set, rests);
-    let amount = total_of(surplus.as_slice()).min(total_of(shortage.as_slice()));
-    by.apportion(amount, surplus.as_mut_slice());
-    by.apportion(amount, shortage.as_mut_slice());
-    take_off(rests, surplus.as_slice(), shortage.as_slice());
+    let members = rests.len();
+    let mut surplus_room = [0u32; MOST_MEMBERS];
+    let mut shortage_room = [0u32; MOST_MEMBERS];
+    let surplus = &mut surplus_room[0..members];
+    let shortage = &mut shortage_room[0..members];
+    Side::Surplus.list(set, rests, surplus);
+    Side::Shortage.list(set, rests, shortage);
+    let amount = total_of(surplus).min(total_of(shortage));
+    by.apportion(amount, surplus);
+    by.apportion(amount, shortage);
+    take_off(rests, surplus, shortage);
 }
 
 impl<P: Apportion> SharingRule for Netting<P> {

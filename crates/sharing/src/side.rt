@@ -1,13 +1,8 @@
 // The two sides of a balance, and the energy of a set's members on each.
-ghost use Rattle.std.specs.Prelude.{◌≡◌, ◌<◌, ◌≤◌, length, if◌then◌else◌};
+ghost use Rattle.std.specs.Prelude.{◌≡◌, length, if◌then◌else◌};
 ghost use Rattle.sharing.specs.Rests.{in_set, energy, energies};
-ghost use Rattle.sharing.specs.Verdict.{most_members};
 
 use crate::rule::MOST_MEMBERS;
-use arrayvec::ArrayVec;
-
-// An energy for each member, in member order.
-pub(crate) type Energies = ArrayVec<u32, MOST_MEMBERS>;
 
 // Not the side that a system is on: each crate gives its sides methods of its own, which a shared type could not have.
 #[derive(Clone, Copy)]
@@ -45,15 +40,13 @@ impl Side {
         }
     }
 
-    // The energy of each member on this side.
-    pub(crate) fn energies(self, set: u64, rests: &[i32]) -> Energies
-        requires few { length rests.now ≤ most_members }
-        ensures { result.items ≡ energies self set rests.now }
+    // Lists the energy of each member on this side: into a slice, since a vector that is pushed to takes half as long again.
+    pub(crate) fn list(self, set: u64, rests: &[i32], own: &mut [u32])
+        requires { length own.old ≡ length rests.now }
+        ensures { own.new ≡ energies self set rests.now }
     {
-        let mut energies = Energies::new();
         for (i, rest) in rests.iter().enumerate() {
-            energies.push(self.of_member(set, i, *rest));
+            own[i] = self.of_member(set, i, *rest);
         }
-        energies
     }
 }
